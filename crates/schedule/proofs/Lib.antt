@@ -1,0 +1,4 @@
+pub mod Keys
+pub mod Low
+pub mod Places
+pub mod Steps

@@ -1,0 +1,56 @@
+-- What the schedule makes of cells are cells, over the width. Assumes nothing.
+use Prim.Native.Nat.{ℕ, zero, suc, _+_, _<_}
+use mathlib.Core.List.{List, [], _∷_}
+use native.Mathlib.Omega.{arith}
+use lib.ListN.{getD, set}
+use Rattle.cells.specs.Cells.{Width, Words, Two, Three, size, step2, step3}
+use Rattle.cells.proofs.Below.{tab}
+use Rattle.cells.proofs.Laws.{LowCells, step2-law, step3-law, xor-low, small-low}
+use Rattle.schedule.specs.declared.Tweakey.{Tweakey}
+use Rattle.schedule.specs.Schedule.{keyCell, roundKey, permutedWords, stepped, nextCells, advance}
+
+-- where the cell at j of the permuted words comes from: the words of the numbers 0 to 47, permuted, say it
+abbrev origin : Words → ℕ → ℕ
+origin n j = getD (permutedWords n (tab (λ (k : ℕ). k) 0 48)) j 0
+
+module _ (w : Width) where
+  -- a list of m values of f, as the permuted words and a round's key are
+  tab-low : (f : ℕ → ℕ) → ((k : ℕ) → f k < size w) → (m i : ℕ) → LowCells w (tab f i m)
+  tab-low f h zero i k = small-low w 0 (omega arith)
+  tab-low f h (suc m) i zero = h i
+  tab-low f h (suc m) i (suc k) = tab-low f h m (suc i) k
+
+  set-low : (t : List ℕ) (i v : ℕ) → v < size w → LowCells w t → LowCells w (set t i v)
+  set-low [] i v p h k = h k
+  set-low (x ∷ t) zero v p h zero = p
+  set-low (x ∷ t) zero v p h (suc k) = h (suc k)
+  set-low (x ∷ t) (suc i) v p h zero = h zero
+  set-low (x ∷ t) (suc i) v p h (suc k) = set-low t i v p (λ j. h (suc j)) k
+
+  stepped-low : (f : ℕ → ℕ) → ((x : ℕ) → x < size w → f x < size w) → (o m : ℕ) (t : List ℕ) → LowCells w t → LowCells w (stepped f o m t)
+  unfolding stepped
+  stepped-low f hf o zero t h = h
+  stepped-low f hf o (suc m) t h = let l = stepped-low f hf o m t h in set-low (stepped f o m t) (o + m) _ (hf _ (l (o + m))) l
+
+  permuted-low : (n : Words) (t : List ℕ) → LowCells w t → LowCells w (permutedWords n t)
+  permuted-low Two t h = tab-low _ (λ j. h (origin Two j)) 48 0
+  permuted-low Three t h = tab-low _ (λ j. h (origin Three j)) 48 0
+
+  cell-low : (n : Words) (t : List ℕ) → LowCells w t → (k : ℕ) → keyCell n t k < size w
+  cell-low Two t h k = xor-low w _ _ (h k) (h (16 + k))
+  cell-low Three t h k = xor-low w _ _ (xor-low w _ _ (h k) (h (16 + k))) (h (32 + k))
+
+  pub next-low : (n : Words) (t : List ℕ) → LowCells w t → LowCells w (nextCells w n t)
+  unfolding nextCells
+  next-low Two t h = stepped-low (step2 w) (step2-law w .low) 16 8 _ (permuted-low Two t h)
+  next-low Three t h =
+      stepped-low (step3 w) (step3-law w .low) 32 8 _ (stepped-low (step2 w) (step2-law w .low) 16 8 _ (permuted-low Three t h))
+
+  pub advance-low : (n : Words) (m : ℕ) (t : Tweakey) → LowCells w (t .cells) → LowCells w ((advance w n m t) .cells)
+  unfolding advance
+  advance-low n zero t h = h
+  advance-low n (suc m) t h = next-low n ((advance w n m t) .cells) (advance-low n m t h)
+
+  pub key-low : (n : Words) (t : List ℕ) → LowCells w t → LowCells w (roundKey n t)
+  unfolding roundKey
+  key-low n t h = tab-low (keyCell n t) (cell-low n t h) 8 0

@@ -1,0 +1,210 @@
+// The tweakey, how it goes from round to round, and the keys that the rounds take of it.
+ghost use mathlib.Core.Path.{_≡_};
+ghost use Prim.Native.Nat.{_<_, _≤_};
+ghost use Rattle.cells.specs.Cells.{Nibble, Byte, Two, Three};
+ghost use Rattle.schedule.specs.Schedule.{permutedWords, nextCells, next, RoundKeys};
+
+// The tweakey: room for three words of sixteen cells, one after the other, and the number of rounds that it has served.
+pub struct Tweakey {
+    pub cells: [u8; 48],
+    pub at: usize,
+}
+
+// Each of 2 words permuted.
+fn permuted_2(t: [u8; 48]) -> [u8; 48]
+    ensures { λ r. ⌜ r ≡ permutedWords Two t ⌝ }
+{
+    [
+        t[9],
+        t[15],
+        t[8],
+        t[13],
+        t[10],
+        t[14],
+        t[12],
+        t[11],
+        t[0],
+        t[1],
+        t[2],
+        t[3],
+        t[4],
+        t[5],
+        t[6],
+        t[7],
+        t[25],
+        t[31],
+        t[24],
+        t[29],
+        t[26],
+        t[30],
+        t[28],
+        t[27],
+        t[16],
+        t[17],
+        t[18],
+        t[19],
+        t[20],
+        t[21],
+        t[22],
+        t[23],
+        t[32],
+        t[33],
+        t[34],
+        t[35],
+        t[36],
+        t[37],
+        t[38],
+        t[39],
+        t[40],
+        t[41],
+        t[42],
+        t[43],
+        t[44],
+        t[45],
+        t[46],
+        t[47],
+    ]
+}
+
+// Each of 3 words permuted.
+fn permuted_3(t: [u8; 48]) -> [u8; 48]
+    ensures { λ r. ⌜ r ≡ permutedWords Three t ⌝ }
+{
+    [
+        t[9],
+        t[15],
+        t[8],
+        t[13],
+        t[10],
+        t[14],
+        t[12],
+        t[11],
+        t[0],
+        t[1],
+        t[2],
+        t[3],
+        t[4],
+        t[5],
+        t[6],
+        t[7],
+        t[25],
+        t[31],
+        t[24],
+        t[29],
+        t[26],
+        t[30],
+        t[28],
+        t[27],
+        t[16],
+        t[17],
+        t[18],
+        t[19],
+        t[20],
+        t[21],
+        t[22],
+        t[23],
+        t[41],
+        t[47],
+        t[40],
+        t[45],
+        t[42],
+        t[46],
+        t[44],
+        t[43],
+        t[32],
+        t[33],
+        t[34],
+        t[35],
+        t[36],
+        t[37],
+        t[38],
+        t[39],
+    ]
+}
+
+// The cells of 64_192 for the next round: every word permuted, then the top two rows of the later words stepped.
+fn next_cells_64_192(t: [u8; 48]) -> [u8; 48]
+    ensures { λ r. ⌜ r ≡ nextCells Nibble Three t ⌝ }
+{
+    let mut n = permuted_3(t);
+    for k in 0..8 {
+        n[16 + k] = cells::left_nibble(n[16 + k]);
+    }
+    for k in 0..8 {
+        n[32 + k] = cells::right_nibble(n[32 + k]);
+    }
+    n
+}
+
+// The tweakey of 64_192 for the next round.
+fn next_64_192(t: Tweakey) -> Tweakey
+    requires { ⌜ t .at < 87 ⌝ }
+    ensures { λ r. ⌜ r ≡ next Nibble Three t ⌝ }
+{
+    let c = t.cells;
+    let n = next_cells_64_192(c);
+    Tweakey {
+        cells: n,
+        at: t.at + 1,
+    }
+}
+
+// The keys of the first m rounds of 64_192. (Stored cell by cell in this very loop: so the compiler works eight cells at once.)
+pub fn round_keys_64_192(m: usize, t: Tweakey) -> [[u8; 8]; 87]
+    requires { ⌜ (m ≤ 87) × (t .at ≡ 0) ⌝ }
+    ensures { λ r. ⌜ RoundKeys Nibble Three m t r ⌝ }
+{
+    let mut keys = [[0u8; 8]; 87];
+    let mut u = t;
+    for i in 0..m {
+        let c = u.cells;
+        for j in 0..8 {
+            keys[i][j] = c[j] ^ c[16 + j] ^ c[32 + j];
+        }
+        let v = next_64_192(u);
+        u = v;
+    }
+    keys
+}
+
+// The cells of 128_256 for the next round: every word permuted, then the top two rows of the later words stepped.
+fn next_cells_128_256(t: [u8; 48]) -> [u8; 48]
+    ensures { λ r. ⌜ r ≡ nextCells Byte Two t ⌝ }
+{
+    let mut n = permuted_2(t);
+    for k in 0..8 {
+        n[16 + k] = cells::left_byte(n[16 + k]);
+    }
+    n
+}
+
+// The tweakey of 128_256 for the next round.
+fn next_128_256(t: Tweakey) -> Tweakey
+    requires { ⌜ t .at < 87 ⌝ }
+    ensures { λ r. ⌜ r ≡ next Byte Two t ⌝ }
+{
+    let c = t.cells;
+    let n = next_cells_128_256(c);
+    Tweakey {
+        cells: n,
+        at: t.at + 1,
+    }
+}
+
+// The keys of the first m rounds of 128_256. (Stored cell by cell in this very loop: so the compiler works eight cells at once.)
+pub fn round_keys_128_256(m: usize, t: Tweakey) -> [[u8; 8]; 87]
+    requires { ⌜ (m ≤ 87) × (t .at ≡ 0) ⌝ }
+    ensures { λ r. ⌜ RoundKeys Byte Two m t r ⌝ }
+{
+    let mut keys = [[0u8; 8]; 87];
+    let mut u = t;
+    for i in 0..m {
+        let c = u.cells;
+        for j in 0..8 {
+            keys[i][j] = c[j] ^ c[16 + j];
+        }
+        let v = next_128_256(u);
+        u = v;
+    }
+    keys
+}
