@@ -1,7 +1,8 @@
-// The tweakey, how it goes from round to round, and the keys that the rounds take of it.
+// The tweakey, how it goes from round to round, the keys that the rounds take of it, and the round constants.
 ghost use mathlib.Core.Path.{_≡_};
 ghost use Prim.Native.Nat.{_<_, _≤_};
-ghost use Rattle.cells.specs.Cells.{Nibble, Byte, Two, Three};
+ghost use Rattle.cells.specs.Cells.{Nibble, Byte, Two, Three, Tabulates};
+ghost use Rattle.schedule.specs.Constants.{constant};
 ghost use Rattle.schedule.specs.Schedule.{permutedWords, nextCells, next, RoundKeys};
 
 // The tweakey: room for three words of sixteen cells, one after the other, and the number of rounds that it has served.
@@ -207,4 +208,20 @@ pub fn round_keys_128_256(m: usize, t: Tweakey) -> [[u8; 8]; 87]
         u = v;
     }
     keys
+}
+
+// The constants of all rounds, as table 2 of the Forkcipher paper prints them.
+const CONSTANTS: [u8; 87] = *b"\
+    \x01\x03\x07\x0f\x1f\x3f\x7e\x7d\x7b\x77\x6f\x5f\x3e\x7c\x79\x73\
+    \x67\x4f\x1e\x3d\x7a\x75\x6b\x57\x2e\x5c\x38\x70\x61\x43\x06\x0d\
+    \x1b\x37\x6e\x5d\x3a\x74\x69\x53\x26\x4c\x18\x31\x62\x45\x0a\x15\
+    \x2b\x56\x2c\x58\x30\x60\x41\x02\x05\x0b\x17\x2f\x5e\x3c\x78\x71\
+    \x63\x47\x0e\x1d\x3b\x76\x6d\x5b\x36\x6c\x59\x32\x64\x49\x12\x25\
+    \x4a\x14\x29\x52\x24\x48\x10";
+
+// Laid out for a function that holds them.
+pub fn round_constants() -> [u8; 87]
+    ensures { λ r. ⌜ Tabulates constant 87 r ⌝ }
+{
+    CONSTANTS
 }

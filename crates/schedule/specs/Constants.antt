@@ -1,0 +1,16 @@
+-- The round constants (document 01, "Constants"; 001, section 4.1). Assumes nothing.
+use Prim.Native.Nat.{ℕ, zero, suc, _+_, _*_, _%_}
+use Rattle.cells.specs.Cells.{bit}
+
+-- the 7-bit number: shift left by one, new lowest bit = bit 6 xor bit 5 xor 1
+abbrev pub stepConstant : ℕ → ℕ
+stepConstant k = k % 64 * 2 + (bit k 6 + bit k 5 + 1) % 2
+
+-- it starts at 0, and is stepped before each round
+abbrev pub stepsFrom0 : ℕ → ℕ
+stepsFrom0 zero = 0
+stepsFrom0 (suc n) = stepConstant (stepsFrom0 n)
+
+-- the constant of the round that n others came before
+unfoldable pub constant : ℕ → ℕ
+constant n = stepsFrom0 (suc n)
