@@ -1,0 +1,65 @@
+-- The block calls: what a caller is told, for every number (document 01, "What a caller is told"). Ciphers: 1 is 64-192,
+-- 2 is 128-256. Wanted: 0 the first result, 1 the second, 2 both; forward these are half 0 and half 1, back the input and the
+-- other half. Assumes nothing.
+use Prim.Native.Nat.{ℕ, zero, suc}
+use mathlib.Core.Bool.{Bool, true, false}
+use mathlib.Core.List.{List}
+use lib.Dec.{eqb, ltb}
+use lib.ListN.{replicate}
+use Rattle.ciphers.specs.declared.Cipher.{Cipher}
+use Rattle.ciphers.specs.declared.Cipher.the-variants.{N64T192, N128T256}
+use Rattle.forkskinny.specs.declared.Forked.{Forked}
+use Rattle.forkskinny.specs.declared.Unforked.{Unforked}
+use Rattle.forkskinny.specs.ForkSkinny.{half, input, other}
+
+abbrev pub zeros : List ℕ
+zeros = replicate 16 0
+
+abbrev pub pick : {A : Type 0} → Bool → A → A → A
+pick true a b = a
+pick false a b = b
+
+-- a block that wasn't asked for comes back as zeros
+abbrev pub given : Bool → List ℕ → List ℕ
+given asked b = pick asked b zeros
+
+-- result k is wanted: it alone, or both
+unfoldable pub wants : ℕ → ℕ → Bool
+wants k want = pick (eqb want k) true (eqb want 2)
+
+-- the answer under the cipher that a number names, or the refusal
+abbrev pub underCipher : {A : Type 0} → ℕ → (Cipher → A) → A → A
+underCipher cipher f refused = pick (eqb cipher 1) (f N64T192) (pick (eqb cipher 2) (f N128T256) refused)
+
+-- ---- forward
+
+abbrev pub forkRefused : Forked
+forkRefused = record { number = 1; half0 = zeros; half1 = zeros }
+
+abbrev pub forkBy : Cipher → List ℕ → List ℕ → List ℕ → ℕ → Forked
+forkBy c key tweak block want = record {
+  number = 0;
+  half0 = given (wants 0 want) (half c key tweak 0 block);
+  half1 = given (wants 1 want) (half c key tweak 1 block);
+}
+
+unfoldable pub forkOf : ℕ → List ℕ → List ℕ → List ℕ → ℕ → Forked
+forkOf cipher key tweak block want =
+    pick (ltb 2 want) forkRefused (underCipher cipher (λ c. forkBy c key tweak block want) forkRefused)
+
+-- ---- back
+
+abbrev pub unforkRefused : Unforked
+unforkRefused = record { number = 1; input = zeros; other = zeros }
+
+abbrev pub unforkBy : Cipher → List ℕ → List ℕ → List ℕ → ℕ → ℕ → Unforked
+unforkBy c key tweak block from want = record {
+  number = 0;
+  input = given (wants 0 want) (input c key tweak from block);
+  other = given (wants 1 want) (other c key tweak from block);
+}
+
+unfoldable pub unforkOf : ℕ → List ℕ → List ℕ → List ℕ → ℕ → ℕ → Unforked
+unforkOf cipher key tweak block from want =
+    pick (ltb 1 from) unforkRefused
+    (pick (ltb 2 want) unforkRefused (underCipher cipher (λ c. unforkBy c key tweak block from want) unforkRefused))
