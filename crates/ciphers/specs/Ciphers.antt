@@ -2,7 +2,7 @@
 -- cells"; "001" the Forkcipher paper, and "enc" and "dec" the lines of its figure 4. Assumes nothing.
 use Prim.Native.Nat.{ℕ, zero, suc, _+_, _*_, _/_, _%_}
 use mathlib.Core.List.{List, [], _∷_, _++_}
-use lib.ListN.{getD}
+use lib.ListN.{getD, take, replicate}
 use lib.Bits.{bitXor}
 use Rattle.cells.specs.Cells.{Width, Nibble, Byte, Words, Two, Three, step2}
 use Rattle.schedule.specs.declared.Tweakey.{Tweakey}
@@ -65,6 +65,11 @@ unloaded Byte s =
 
 unfoldable pub unload : Width → State → List ℕ
 unload w s = unloaded w s
+
+-- the part of a block that counts, as the calls give it back (01, What a caller is told)
+abbrev pub counted : Width → List ℕ → List ℕ
+counted Nibble b = take 8 b ++ replicate 8 0
+counted Byte b = b
 
 abbrev pub sixteen : (ℕ → ℕ) → List ℕ
 sixteen f =

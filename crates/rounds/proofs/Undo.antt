@@ -21,6 +21,11 @@ Square s = grid (cell s) ≡ s
 abbrev pub Low : Width → State → Type 0
 Low w s = (i j : ℕ) → cell s i j < size w
 
+-- a state of four rows of four cells of the width
+pub record Cells (w : Width) (s : State) : Type 0 where
+  pub low : Low w s
+  pub square : Square s
+
 -- ---- each step undone
 
 unmix-mix : (s : State) → unmixColumns (mixColumns s) ≡ grid (cell s)
@@ -59,6 +64,12 @@ low-rows n a b c d p ha hb hc hd (suc (suc (suc (suc i)))) j = p
 -- of a row that is made column by column
 low-cols : (n : ℕ) (f : ℕ → ℕ) → ((j : ℕ) → f j < n) → (j : ℕ) → getD (row f) j 0 < n
 low-cols n f h = low-row n (f 0) (f 1) (f 2) (f 3) (h 0) (h 1) (h 2) (h 3)
+
+-- of a state that is made cell by cell
+pub low-grid : (n : ℕ) (f : ℕ → ℕ → ℕ) → ((i j : ℕ) → f i j < n) → (i j : ℕ) → cell (grid f) i j < n
+low-grid n f h =
+    low-rows n (row (f 0)) (row (f 1)) (row (f 2)) (row (f 3)) (let z : f 0 0 < n = h 0 0 in omega arith) (low-cols n (f 0) (h 0)) (low-cols n (f 1) (h 1))
+    (low-cols n (f 2) (h 2)) (low-cols n (f 3) (h 3))
 
 module _ (w : Width) where
   pos : 0 < size w

@@ -10,13 +10,8 @@ use Rattle.schedule.specs.Constants.{constant}
 use Rattle.schedule.specs.Schedule.{roundKey, advance}
 use Rattle.schedule.proofs.Low.{advance-low, key-low}
 use Rattle.rounds.specs.State.{State}
-use Rattle.rounds.proofs.Undo.{Square, Low, round-low, round-square, unround-low, unround-square, unround-round, round-unround}
+use Rattle.rounds.proofs.Undo.{Cells, round-low, round-square, unround-low, unround-square, unround-round, round-unround}
 use Rattle.runs.specs.Runs.{rounds, unrounds, roundAt, unroundAt}
-
--- a state of four rows of four cells of the width
-pub record Cells (w : Width) (s : State) : Type 0 where
-  pub low : Low w s
-  pub square : Square s
 
 constant-low : (q : ℕ) → constant q < 128
 unfolding constant

@@ -15,7 +15,7 @@ origin n j = getD (permutedWords n (tab (λ (k : ℕ). k) 0 48)) j 0
 
 module _ (w : Width) where
   -- a list of m values of f, as the permuted words and a round's key are
-  tab-low : (f : ℕ → ℕ) → ((k : ℕ) → f k < size w) → (m i : ℕ) → LowCells w (tab f i m)
+  pub tab-low : (f : ℕ → ℕ) → ((k : ℕ) → f k < size w) → (m i : ℕ) → LowCells w (tab f i m)
   tab-low f h zero i k = small-low w 0 (omega arith)
   tab-low f h (suc m) i zero = h i
   tab-low f h (suc m) i (suc k) = tab-low f h m (suc i) k

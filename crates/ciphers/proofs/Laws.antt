@@ -1,0 +1,118 @@
+-- What is made of bytes are cells and the other way round, over the width; a state as a block and back; the branch constant
+-- undone; and the rounds of a cipher are no more than the constants. Assumes nothing.
+use mathlib.Core.Path.{_≡_, refl, sym, ap, _∙_}
+use mathlib.Core.List.{List, [], _∷_, _++_}
+use Prim.Native.Nat.{ℕ, zero, suc, _+_, _*_, _/_, _%_, _<_, _≤_}
+use native.Mathlib.Omega.{arith}
+use lib.Dec.{lit≤}
+use lib.ListN.{length, getD, take, replicate}
+use lib.Bits.{bitXor}
+use lib.Seq.{ext-getD, getD-take, length-take-le, take-all}
+use Rattle.cells.specs.Cells.{Width, Nibble, Byte, size, step2}
+use Rattle.cells.proofs.Below.{tab, table}
+use Rattle.cells.proofs.Laws.{LowCells, step2-law, small-low, xor-low}
+use Rattle.cells.proofs.Xor.{xor-last}
+use Rattle.schedule.specs.declared.Tweakey.{Tweakey}
+use Rattle.schedule.proofs.Low.{tab-low}
+use Rattle.rounds.specs.State.{State, cell, grid}
+use Rattle.rounds.proofs.Undo.{Cells, low-grid}
+use Rattle.ciphers.specs.declared.Cipher.{Cipher}
+use Rattle.ciphers.specs.declared.Cipher.the-variants.{N64T192, N128T256}
+use Rattle.ciphers.specs.Ciphers.{widthOf, initOf, branchOf, nibbleFrom, cellOf, load, unload, counted, sixteen, keyCells, tk, stepsFrom1, branchConstant, addBranch}
+
+-- the constants are enough
+pub fit : (c : Cipher) → initOf c + (branchOf c + branchOf c) ≤ 87
+fit N64T192 = lit≤ tt
+fit N128T256 = lit≤ tt
+
+-- ---- bytes as cells
+
+pub record Bytes (b : List ℕ) : Type 0 where
+  pub at : (k : ℕ) → getD b k 0 < 256
+
+nibble-low : (b : List ℕ) (o k : ℕ) → Bytes b → nibbleFrom b o k < 16
+nibble-low b o zero h = omega (arith, h .at o)
+nibble-low b o (suc zero) h = omega arith
+nibble-low b o (suc (suc k)) h = nibble-low b (suc o) k h
+
+cell-low : (w : Width) (b : List ℕ) → Bytes b → (k : ℕ) → cellOf w b k < size w
+cell-low Nibble b h k = nibble-low b 0 k h
+cell-low Byte b h k = h .at k
+
+pub load-cells : (w : Width) (b : List ℕ) → Bytes b → Cells w (load w b)
+unfolding load
+load-cells w b h = record {
+  low = low-grid (size w) (λ i j. cellOf w b (4 * i + j)) (λ i j. cell-low w b h (4 * i + j));
+  square = refl;
+}
+
+pub tk-at : (c : Cipher) (key tweak : List ℕ) → (tk c key tweak) .at ≡ 0
+unfolding tk
+tk-at c key tweak = refl
+
+append-low : (w : Width) (a b : List ℕ) → LowCells w a → LowCells w b → LowCells w (a ++ b)
+append-low w [] b p q k = q k
+append-low w (x ∷ a) b p q zero = p zero
+append-low w (x ∷ a) b p q (suc k) = append-low w a b (λ j. p (suc j)) q k
+
+words-low : (w : Width) (f g h : ℕ → ℕ) → ((k : ℕ) → f k < size w) → ((k : ℕ) → g k < size w) → ((k : ℕ) → h k < size w)
+    → LowCells w (sixteen f ++ sixteen g ++ sixteen h)
+words-low w f g h p q r =
+    append-low w (sixteen f ++ sixteen g) (sixteen h) (append-low w (sixteen f) (sixteen g) (tab-low w f p 16 0) (tab-low w g q 16 0)) (tab-low w h r 16 0)
+
+pub tk-low : (c : Cipher) (key tweak : List ℕ) → Bytes key → Bytes tweak → LowCells (widthOf c) ((tk c key tweak) .cells)
+unfolding tk
+tk-low N64T192 key tweak p q =
+    words-low Nibble (cellOf Nibble key) (λ k. cellOf Nibble key (16 + k)) (cellOf Nibble tweak) (cell-low Nibble key p) (λ k. cell-low Nibble key p (16 + k))
+    (cell-low Nibble tweak q)
+tk-low N128T256 key tweak p q = words-low Byte (cellOf Byte key) (cellOf Byte tweak) (λ k. 0) (cell-low Byte key p) (cell-low Byte tweak q) (λ k. omega arith)
+
+-- ---- a state as a block and back
+
+join-high : (x y : ℕ) → x < 16 → (x % 16 * 16 + y % 16) / 16 ≡ x
+join-high x y h = omega arith
+
+join-low : (x y : ℕ) → y < 16 → (x % 16 * 16 + y % 16) % 16 ≡ y
+join-low x y h = omega arith
+
+pub load-unload : (w : Width) (s : State) → Cells w s → load w (unload w s) ≡ s
+unfolding load unload
+load-unload Nibble s h = simp (join-high, join-low, h .low) (h .square)
+load-unload Byte s h = h .square
+
+split-join : (x : ℕ) → x < 256 → x / 16 % 16 * 16 + x % 16 % 16 ≡ x
+split-join x h = omega arith
+
+tab-length : (f : ℕ → ℕ) (n i : ℕ) → length (tab f i n) ≡ n
+tab-length f zero i = refl
+tab-length f (suc n) i = ap suc (tab-length f n (suc i))
+
+-- the first n of a list, place by place
+spelled : (l : List ℕ) (n : ℕ) → n ≤ length l → tab (λ (k : ℕ). getD l k 0) 0 n ≡ take n l
+spelled l n h =
+    ext-getD 0 (tab (λ (k : ℕ). getD l k 0) 0 n) (take n l) (tab-length (λ (k : ℕ). getD l k 0) n 0 ∙ sym (length-take-le n l h))
+    (λ k p. let q : k < n = omega (arith, tab-length (λ (k : ℕ). getD l k 0) n 0) in table (λ (k : ℕ). getD l k 0) n k q ∙ sym (getD-take n l k 0 q))
+
+pub unload-load : (w : Width) (b : List ℕ) → length b ≡ 16 → Bytes b → unload w (load w b) ≡ counted w b
+unfolding load unload
+unload-load Nibble b e h = simp (split-join, h .at) (ap (λ (l : List ℕ). l ++ replicate 8 0) (spelled b 8 (omega arith)))
+unload-load Byte b e h = spelled b 16 (omega arith) ∙ take-all 16 b (omega arith)
+
+-- ---- the branch constant undone
+
+pub branch-branch : (w : Width) (s : State) → Cells w s → addBranch w (addBranch w s) ≡ s
+unfolding addBranch
+branch-branch w s h = simp xor-last (h .square)
+
+constant-low : (w : Width) (n : ℕ) → stepsFrom1 w n < size w
+constant-low w zero = small-low w 1 (omega arith)
+constant-low w (suc n) = step2-law w .low (stepsFrom1 w n) (constant-low w n)
+
+pub branch-cells : (w : Width) (s : State) → Cells w s → Cells w (addBranch w s)
+unfolding addBranch branchConstant
+branch-cells w s h = record {
+  low =
+      low-grid (size w) (λ i j. bitXor (cell s i j) (cell (branchConstant w) i j))
+      (λ i j. xor-low w _ _ (h .low i j) (low-grid (size w) (λ i j. stepsFrom1 w (4 * i + j)) (λ i j. constant-low w (4 * i + j)) i j));
+  square = refl;
+}
