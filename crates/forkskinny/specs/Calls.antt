@@ -27,6 +27,11 @@ given asked b = pick asked b zeros
 unfoldable pub wants : ℕ → ℕ → Bool
 wants k want = pick (eqb want k) true (eqb want 2)
 
+-- the number of a cipher
+abbrev pub numberOf : Cipher → ℕ
+numberOf N64T192 = 1
+numberOf N128T256 = 2
+
 -- the answer under the cipher that a number names, or the refusal
 abbrev pub underCipher : {A : Type 0} → ℕ → (Cipher → A) → A → A
 underCipher cipher f refused = pick (eqb cipher 1) (f N64T192) (pick (eqb cipher 2) (f N128T256) refused)

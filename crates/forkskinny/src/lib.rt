@@ -1,54 +1,20 @@
-// ForkSkinny: blocks and keys as cells, the fork forward and back, and the block calls.
+// ForkSkinny: the fork forward and back, and the block calls.
 ghost use mathlib.Core.Path.{_≡_};
+ghost use mathlib.Core.Bool.{true};
 ghost use Prim.Native.Nat.{_+_, _≤_};
-ghost use Rattle.cells.specs.Cells.{Nibble, Byte, Tabulates, sub, unsub};
+ghost use Rattle.cells.specs.Cells.{Tabulates, sub, unsub};
+ghost use Rattle.schedule.specs.declared.Tweakey.{Tweakey};
 ghost use Rattle.schedule.specs.Schedule.{RoundKeys};
-ghost use Rattle.forkskinny.specs.ForkSkinny.{widthOf, wordsOf, initOf, branchOf, loaded, load, unloaded, unload, keyCells, tk, branched, addBranch, sideOf, otherOf, startOf, enter, forked, branch, unbranch, unforked};
+ghost use Rattle.ciphers.specs.Ciphers.{widthOf, wordsOf, initOf, branchOf};
+ghost use Rattle.forkskinny.specs.ForkSkinny.{sideOf, otherOf, startOf, enter, forked, branch, unbranch, unforked};
+ghost use Rattle.forkskinny.specs.Reach.{reachOf, takesFar};
 ghost use Rattle.forkskinny.specs.Calls.{given, wants, forkBy, forkOf, unforkBy, unforkOf};
-use schedule::Tweakey;
-
-// By the bits of the block and of the tweakey, as the paper names its ciphers: 64-192 and 128-256.
-pub enum Cipher {
-    N64T192,
-    N128T256,
-}
+use ciphers::Cipher;
 
 // After the fork the near branch goes on, and the far one takes the rounds after it.
 pub enum Branch {
     Near,
     Far,
-}
-
-// ---- the sizes
-
-// Rounds before the fork.
-fn init_of(c: Cipher) -> usize
-    ensures { λ r. ⌜ r ≡ initOf c ⌝ }
-{
-    match c {
-        Cipher::N64T192 => 17,
-        Cipher::N128T256 => 21,
-    }
-}
-
-// Rounds of a branch.
-fn branch_of(c: Cipher) -> usize
-    ensures { λ r. ⌜ r ≡ branchOf c ⌝ }
-{
-    match c {
-        Cipher::N64T192 => 23,
-        Cipher::N128T256 => 27,
-    }
-}
-
-// The round at which a branch begins.
-fn start_of(c: Cipher, b: Branch) -> usize
-    ensures { λ r. ⌜ r ≡ startOf c b ⌝ }
-{
-    match b {
-        Branch::Near => init_of(c),
-        Branch::Far => init_of(c) + branch_of(c),
-    }
 }
 
 // The branch that gives a half.
@@ -58,253 +24,31 @@ fn side_of(h: u32) -> Branch
     if h == 0 { Branch::Near } else { Branch::Far }
 }
 
-// ---- blocks and keys as cells
-
-fn load_nibbles(b: [u8; 16]) -> [[u8; 4]; 4]
-    ensures { λ r. ⌜ r ≡ loaded Nibble b ⌝ }
+// The other half.
+fn other_of(h: u32) -> u32
+    ensures { λ r. ⌜ r ≡ otherOf h ⌝ }
 {
-    [
-        [b[0] / 16, b[0] % 16, b[1] / 16, b[1] % 16],
-        [b[2] / 16, b[2] % 16, b[3] / 16, b[3] % 16],
-        [b[4] / 16, b[4] % 16, b[5] / 16, b[5] % 16],
-        [b[6] / 16, b[6] % 16, b[7] / 16, b[7] % 16],
-    ]
+    if h == 0 { 1 } else { 0 }
 }
 
-fn load_bytes(b: [u8; 16]) -> [[u8; 4]; 4]
-    ensures { λ r. ⌜ r ≡ loaded Byte b ⌝ }
+// The round at which a branch begins.
+fn start_of(c: Cipher, b: Branch) -> usize
+    ensures { λ r. ⌜ r ≡ startOf c b ⌝ }
 {
-    [
-        [b[0], b[1], b[2], b[3]],
-        [b[4], b[5], b[6], b[7]],
-        [b[8], b[9], b[10], b[11]],
-        [b[12], b[13], b[14], b[15]],
-    ]
-}
-
-// A block as a state.
-fn load_state(c: Cipher, b: [u8; 16]) -> [[u8; 4]; 4]
-    ensures { λ r. ⌜ r ≡ load (widthOf c) b ⌝ }
-{
-    match c {
-        Cipher::N64T192 => load_nibbles(b),
-        Cipher::N128T256 => load_bytes(b),
+    match b {
+        Branch::Near => ciphers::init_of(c),
+        Branch::Far => ciphers::init_of(c) + ciphers::branch_of(c),
     }
 }
 
-fn unload_nibbles(s: [[u8; 4]; 4]) -> [u8; 16]
-    ensures { λ r. ⌜ r ≡ unloaded Nibble s ⌝ }
+// The rounds whose keys a call takes: to the end of the near branch, or of the far one.
+fn reach_of(c: Cipher, far: bool) -> usize
+    ensures { λ r. ⌜ r ≡ reachOf c far ⌝ }
 {
-    [
-        s[0][0] % 16 * 16 + s[0][1] % 16,
-        s[0][2] % 16 * 16 + s[0][3] % 16,
-        s[1][0] % 16 * 16 + s[1][1] % 16,
-        s[1][2] % 16 * 16 + s[1][3] % 16,
-        s[2][0] % 16 * 16 + s[2][1] % 16,
-        s[2][2] % 16 * 16 + s[2][3] % 16,
-        s[3][0] % 16 * 16 + s[3][1] % 16,
-        s[3][2] % 16 * 16 + s[3][3] % 16,
-        0,
-        0,
-        0,
-        0,
-        0,
-        0,
-        0,
-        0,
-    ]
-}
-
-fn unload_bytes(s: [[u8; 4]; 4]) -> [u8; 16]
-    ensures { λ r. ⌜ r ≡ unloaded Byte s ⌝ }
-{
-    [
-        s[0][0],
-        s[0][1],
-        s[0][2],
-        s[0][3],
-        s[1][0],
-        s[1][1],
-        s[1][2],
-        s[1][3],
-        s[2][0],
-        s[2][1],
-        s[2][2],
-        s[2][3],
-        s[3][0],
-        s[3][1],
-        s[3][2],
-        s[3][3],
-    ]
-}
-
-// A state as a block.
-fn unload_state(c: Cipher, s: [[u8; 4]; 4]) -> [u8; 16]
-    ensures { λ r. ⌜ r ≡ unload (widthOf c) s ⌝ }
-{
-    match c {
-        Cipher::N64T192 => unload_nibbles(s),
-        Cipher::N128T256 => unload_bytes(s),
+    if far {
+        return start_of(c, Branch::Far) + ciphers::branch_of(c);
     }
-}
-
-fn key_64_192(key: [u8; 16], tweak: [u8; 16]) -> [u8; 48]
-    ensures { λ r. ⌜ r ≡ keyCells Cipher.N64T192 key tweak ⌝ }
-{
-    [
-        key[0] / 16,
-        key[0] % 16,
-        key[1] / 16,
-        key[1] % 16,
-        key[2] / 16,
-        key[2] % 16,
-        key[3] / 16,
-        key[3] % 16,
-        key[4] / 16,
-        key[4] % 16,
-        key[5] / 16,
-        key[5] % 16,
-        key[6] / 16,
-        key[6] % 16,
-        key[7] / 16,
-        key[7] % 16,
-        key[8] / 16,
-        key[8] % 16,
-        key[9] / 16,
-        key[9] % 16,
-        key[10] / 16,
-        key[10] % 16,
-        key[11] / 16,
-        key[11] % 16,
-        key[12] / 16,
-        key[12] % 16,
-        key[13] / 16,
-        key[13] % 16,
-        key[14] / 16,
-        key[14] % 16,
-        key[15] / 16,
-        key[15] % 16,
-        tweak[0] / 16,
-        tweak[0] % 16,
-        tweak[1] / 16,
-        tweak[1] % 16,
-        tweak[2] / 16,
-        tweak[2] % 16,
-        tweak[3] / 16,
-        tweak[3] % 16,
-        tweak[4] / 16,
-        tweak[4] % 16,
-        tweak[5] / 16,
-        tweak[5] % 16,
-        tweak[6] / 16,
-        tweak[6] % 16,
-        tweak[7] / 16,
-        tweak[7] % 16,
-    ]
-}
-
-fn key_128_256(key: [u8; 16], tweak: [u8; 16]) -> [u8; 48]
-    ensures { λ r. ⌜ r ≡ keyCells Cipher.N128T256 key tweak ⌝ }
-{
-    [
-        key[0],
-        key[1],
-        key[2],
-        key[3],
-        key[4],
-        key[5],
-        key[6],
-        key[7],
-        key[8],
-        key[9],
-        key[10],
-        key[11],
-        key[12],
-        key[13],
-        key[14],
-        key[15],
-        tweak[0],
-        tweak[1],
-        tweak[2],
-        tweak[3],
-        tweak[4],
-        tweak[5],
-        tweak[6],
-        tweak[7],
-        tweak[8],
-        tweak[9],
-        tweak[10],
-        tweak[11],
-        tweak[12],
-        tweak[13],
-        tweak[14],
-        tweak[15],
-        0,
-        0,
-        0,
-        0,
-        0,
-        0,
-        0,
-        0,
-        0,
-        0,
-        0,
-        0,
-        0,
-        0,
-        0,
-        0,
-    ]
-}
-
-// The key and then the tweak, before the first round.
-fn load_key(c: Cipher, key: [u8; 16], tweak: [u8; 16]) -> Tweakey
-    ensures { λ r. ⌜ r ≡ tk c key tweak ⌝ }
-{
-    match c {
-        Cipher::N64T192 => {
-            let cells = key_64_192(key, tweak);
-            Tweakey { cells, at: 0 }
-        }
-        Cipher::N128T256 => {
-            let cells = key_128_256(key, tweak);
-            Tweakey { cells, at: 0 }
-        }
-    }
-}
-
-// ---- the branch constant
-
-fn branch_nibbles(s: [[u8; 4]; 4]) -> [[u8; 4]; 4]
-    ensures { λ r. ⌜ r ≡ branched Nibble s ⌝ }
-{
-    [
-        [s[0][0] ^ 1, s[0][1] ^ 2, s[0][2] ^ 4, s[0][3] ^ 9],
-        [s[1][0] ^ 3, s[1][1] ^ 6, s[1][2] ^ 13, s[1][3] ^ 10],
-        [s[2][0] ^ 5, s[2][1] ^ 11, s[2][2] ^ 7, s[2][3] ^ 15],
-        [s[3][0] ^ 14, s[3][1] ^ 12, s[3][2] ^ 8, s[3][3] ^ 1],
-    ]
-}
-
-fn branch_bytes(s: [[u8; 4]; 4]) -> [[u8; 4]; 4]
-    ensures { λ r. ⌜ r ≡ branched Byte s ⌝ }
-{
-    [
-        [s[0][0] ^ 1, s[0][1] ^ 2, s[0][2] ^ 4, s[0][3] ^ 8],
-        [s[1][0] ^ 16, s[1][1] ^ 32, s[1][2] ^ 65, s[1][3] ^ 130],
-        [s[2][0] ^ 5, s[2][1] ^ 10, s[2][2] ^ 20, s[2][3] ^ 40],
-        [s[3][0] ^ 81, s[3][1] ^ 162, s[3][2] ^ 68, s[3][3] ^ 136],
-    ]
-}
-
-fn add_branch(c: Cipher, s: [[u8; 4]; 4]) -> [[u8; 4]; 4]
-    ensures { λ r. ⌜ r ≡ addBranch (widthOf c) s ⌝ }
-{
-    match c {
-        Cipher::N64T192 => branch_nibbles(s),
-        Cipher::N128T256 => branch_bytes(s),
-    }
+    start_of(c, Branch::Near) + ciphers::branch_of(c)
 }
 
 // The branch constant, where the branch has it.
@@ -313,49 +57,239 @@ fn enter_branch(c: Cipher, b: Branch, s: [[u8; 4]; 4]) -> [[u8; 4]; 4]
 {
     match b {
         Branch::Near => s,
-        Branch::Far => add_branch(c, s),
+        Branch::Far => ciphers::add_branch(c, s),
     }
 }
 
-// ---- what a call makes once
-
-fn table_of(c: Cipher) -> [u8; 256]
-    ensures { λ r. ⌜ Tabulates (sub (widthOf c)) 256 r ⌝ }
+// The state at the fork.
+fn to_fork(c: Cipher, table: &[u8; 256], keys: &[[u8; 8]; 87], m: [u8; 16]) -> [[u8; 4]; 4]
+    requires { ⌜ Tabulates (sub (widthOf c)) 256 (now table) ⌝ }
+    ensures { λ r. ⌜ ((t : Tweakey) → RoundKeys (widthOf c) (wordsOf c) (initOf c) t (now (keys .entry)) → r ≡ forked c t m) ⌝ }
 {
-    match c {
-        Cipher::N64T192 => cells::nibble_table(),
-        Cipher::N128T256 => cells::byte_table(),
-    }
+    let n = ciphers::init_of(c);
+    runs::run(table, keys, 0, n, ciphers::load_state(c, m))
 }
 
-fn untable_of(c: Cipher) -> [u8; 256]
-    ensures { λ r. ⌜ Tabulates (unsub (widthOf c)) 256 r ⌝ }
+// A branch from the state at the fork.
+fn run_branch(
+    c: Cipher,
+    b: Branch,
+    table: &[u8; 256],
+    keys: &[[u8; 8]; 87],
+    s: [[u8; 4]; 4],
+) -> [u8; 16]
+    requires { ⌜ Tabulates (sub (widthOf c)) 256 (now table) ⌝ }
+    ensures { λ r. ⌜ ((t : Tweakey) → RoundKeys (widthOf c) (wordsOf c) (startOf c b + branchOf c) t (now (keys .entry)) → r ≡ branch c b t s) ⌝ }
 {
-    match c {
-        Cipher::N64T192 => cells::nibble_untable(),
-        Cipher::N128T256 => cells::byte_untable(),
-    }
+    let at = start_of(c, b);
+    let n = ciphers::branch_of(c);
+    ciphers::unload_state(c, runs::run(table, keys, at, n, enter_branch(c, b, s)))
 }
 
-// The keys of the first m rounds.
-fn round_keys(c: Cipher, m: usize, t: Tweakey) -> [[u8; 8]; 87]
-    requires { ⌜ (m ≤ 87) × (t .at ≡ 0) ⌝ }
-    ensures { λ r. ⌜ RoundKeys (widthOf c) (wordsOf c) m t r ⌝ }
+// The state at the fork, from a branch's block.
+fn unrun_branch(
+    c: Cipher,
+    b: Branch,
+    untable: &[u8; 256],
+    keys: &[[u8; 8]; 87],
+    h: [u8; 16],
+) -> [[u8; 4]; 4]
+    requires { ⌜ Tabulates (unsub (widthOf c)) 256 (now untable) ⌝ }
+    ensures { λ r. ⌜ ((t : Tweakey) → RoundKeys (widthOf c) (wordsOf c) (startOf c b + branchOf c) t (now (keys .entry)) → r ≡ unbranch c b t h) ⌝ }
 {
-    match c {
-        Cipher::N64T192 => schedule::round_keys_64_192(m, t),
-        Cipher::N128T256 => schedule::round_keys_128_256(m, t),
-    }
+    let at = start_of(c, b);
+    let n = ciphers::branch_of(c);
+    enter_branch(
+        c,
+        b,
+        runs::unrun(untable, keys, at, n, ciphers::load_state(c, h)),
+    )
 }
 
+// The input block, from the state at the fork.
+fn from_fork(c: Cipher, untable: &[u8; 256], keys: &[[u8; 8]; 87], s: [[u8; 4]; 4]) -> [u8; 16]
+    requires { ⌜ Tabulates (unsub (widthOf c)) 256 (now untable) ⌝ }
+    ensures { λ r. ⌜ ((t : Tweakey) → RoundKeys (widthOf c) (wordsOf c) (initOf c) t (now (keys .entry)) → r ≡ unforked c t s) ⌝ }
+{
+    let n = ciphers::init_of(c);
+    ciphers::unload_state(c, runs::unrun(untable, keys, 0, n, s))
+}
+
+// ---- the block calls
+
+// Result k is wanted: it alone, or both.
+fn is_wanted(k: u32, want: u32) -> bool
+    ensures { λ r. ⌜ r ≡ wants k want ⌝ }
+{
+    if want == k {
+        return true;
+    }
+    want == 2
+}
+
+// Half h from the state at the fork, or zeros where it was not asked for.
+fn half_if(
+    asked: bool,
+    c: Cipher,
+    h: u32,
+    table: &[u8; 256],
+    keys: &[[u8; 8]; 87],
+    s: [[u8; 4]; 4],
+) -> [u8; 16]
+    requires { ⌜ Tabulates (sub (widthOf c)) 256 (now table) ⌝ }
+    ensures { λ r. ⌜ ((t : Tweakey) → (asked ≡ true → RoundKeys (widthOf c) (wordsOf c) (startOf c (sideOf h) + branchOf c) t (now (keys .entry))) → r ≡ given asked (branch c (sideOf h) t s)) ⌝ }
+{
+    if asked {
+        let b = side_of(h);
+        return run_branch(c, b, table, keys, s);
+    }
+    [0u8; 16]
+}
+
+// The input block from the state at the fork, or zeros where it was not asked for.
+fn input_if(
+    asked: bool,
+    c: Cipher,
+    untable: &[u8; 256],
+    keys: &[[u8; 8]; 87],
+    s: [[u8; 4]; 4],
+) -> [u8; 16]
+    requires { ⌜ Tabulates (unsub (widthOf c)) 256 (now untable) ⌝ }
+    ensures { λ r. ⌜ ((t : Tweakey) → RoundKeys (widthOf c) (wordsOf c) (initOf c) t (now (keys .entry)) → r ≡ given asked (unforked c t s)) ⌝ }
+{
+    if asked {
+        return from_fork(c, untable, keys, s);
+    }
+    [0u8; 16]
+}
+
+// What a block call forward answers: 0 and what was asked for, or 1 and zeros.
 pub struct Forked {
     pub number: u32,
     pub half0: [u8; 16],
     pub half1: [u8; 16],
 }
 
+fn fork_by(c: Cipher, key: [u8; 16], tweak: [u8; 16], block: [u8; 16], want: u32) -> Forked
+    ensures { λ r. ⌜ r ≡ forkBy c key tweak block want ⌝ }
+{
+    let first = is_wanted(0, want);
+    let second = is_wanted(1, want);
+    let m = reach_of(c, second);
+    let keys = ciphers::round_keys(c, m, ciphers::load_key(c, key, tweak));
+    let table = ciphers::table_of(c);
+    let s = to_fork(c, &table, &keys, block);
+    let half0 = half_if(first, c, 0, &table, &keys, s);
+    let half1 = half_if(second, c, 1, &table, &keys, s);
+    Forked {
+        number: 0,
+        half0,
+        half1,
+    }
+}
+
+// ForkSkinny forward: half 0 (want 0), half 1 (want 1) or both (want 2) of a block, under the cipher that a number names.
+pub fn fork(cipher: u32, key: [u8; 16], tweak: [u8; 16], block: [u8; 16], want: u32) -> Forked
+    ensures { λ r. ⌜ r ≡ forkOf cipher key tweak block want ⌝ }
+{
+    if 2 < want {
+        return Forked {
+            number: 1,
+            half0: [0u8; 16],
+            half1: [0u8; 16],
+        };
+    }
+    if cipher == 1 {
+        return fork_by(Cipher::N64T192, key, tweak, block, want);
+    }
+    if cipher == 2 {
+        return fork_by(Cipher::N128T256, key, tweak, block, want);
+    }
+    Forked {
+        number: 1,
+        half0: [0u8; 16],
+        half1: [0u8; 16],
+    }
+}
+
+// What a block call back answers: 0 and what was asked for, or 1 and zeros.
 pub struct Unforked {
     pub number: u32,
     pub input: [u8; 16],
     pub other: [u8; 16],
+}
+
+// Going back from half `from`, with the other half asked for or not, takes the far branch.
+fn takes_far(from: u32, asked: bool) -> bool
+    ensures { λ r. ⌜ r ≡ takesFar from asked ⌝ }
+{
+    if from == 0 {
+        return asked;
+    }
+    true
+}
+
+fn unfork_by(
+    c: Cipher,
+    key: [u8; 16],
+    tweak: [u8; 16],
+    block: [u8; 16],
+    from: u32,
+    want: u32,
+) -> Unforked
+    ensures { λ r. ⌜ r ≡ unforkBy c key tweak block from want ⌝ }
+{
+    let first = is_wanted(0, want);
+    let second = is_wanted(1, want);
+    let far = takes_far(from, second);
+    let m = reach_of(c, far);
+    let keys = ciphers::round_keys(c, m, ciphers::load_key(c, key, tweak));
+    let table = ciphers::table_of(c);
+    let untable = ciphers::untable_of(c);
+    let s = unrun_branch(c, side_of(from), &untable, &keys, block);
+    let input = input_if(first, c, &untable, &keys, s);
+    let other = half_if(second, c, other_of(from), &table, &keys, s);
+    Unforked {
+        number: 0,
+        input,
+        other,
+    }
+}
+
+// Back from a half (from 0 or 1): the input block (want 0), the other half (want 1) or both (want 2).
+pub fn unfork(
+    cipher: u32,
+    key: [u8; 16],
+    tweak: [u8; 16],
+    block: [u8; 16],
+    from: u32,
+    want: u32,
+) -> Unforked
+    ensures { λ r. ⌜ r ≡ unforkOf cipher key tweak block from want ⌝ }
+{
+    if 1 < from {
+        return Unforked {
+            number: 1,
+            input: [0u8; 16],
+            other: [0u8; 16],
+        };
+    }
+    if 2 < want {
+        return Unforked {
+            number: 1,
+            input: [0u8; 16],
+            other: [0u8; 16],
+        };
+    }
+    if cipher == 1 {
+        return unfork_by(Cipher::N64T192, key, tweak, block, from, want);
+    }
+    if cipher == 2 {
+        return unfork_by(Cipher::N128T256, key, tweak, block, from, want);
+    }
+    Unforked {
+        number: 1,
+        input: [0u8; 16],
+        other: [0u8; 16],
+    }
 }

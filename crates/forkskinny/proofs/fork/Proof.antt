@@ -1,0 +1,33 @@
+-- `forkskinny::fork` meets its contract: one return for each case. Assumes nothing.
+use mathlib.Core.Path.{_∙_}
+use borrow.Author.Tests.{eq-eqb, ne-eqb, lt-ltb, le-ltb}
+use Rattle.forkskinny.specs.Calls.{forkOf}
+use borrow.Author.Needs.{needs}
+use Rattle.forkskinny.proofs.fork.Statement.{statement}
+use Rattle.forkskinny.proofs.fork.Tie as tie
+
+returns : tie.Need-returns
+unfolding forkOf
+returns c = simp (lt-ltb _ _ (c .if1 .taken))
+
+fork-by-requires : tie.Need-fork-by-requires
+fork-by-requires c κs = search needs
+
+returns-2 : tie.Need-returns-2
+unfolding forkOf
+returns-2 c = simp (le-ltb _ _ (c .before .before .if1 .left), eq-eqb _ _ (c .before .if2 .taken)) (c .fork-by .ensures)
+
+fork-by-requires-2 : tie.Need-fork-by-requires-2
+fork-by-requires-2 c κs = search needs
+
+returns-3 : tie.Need-returns-3
+unfolding forkOf
+returns-3 c = simp (le-ltb _ _ (c .before .before .before .if1 .left), ne-eqb _ _ (c .before .before .if2 .left), eq-eqb _ _ (c .before .if3 .taken)) (c .fork-by2 .ensures)
+
+returns-4 : tie.Need-returns-4
+unfolding forkOf
+returns-4 c = simp (le-ltb _ _ (c .before .before .if1 .left), ne-eqb _ _ (c .before .if2 .left), ne-eqb _ _ (c .if3 .left))
+
+pub fork-spec : {M : Type 1} → statement M
+fork-spec =
+    tie.close (tie.spec returns fork-by-requires returns-2 fork-by-requires-2 returns-3 returns-4)

@@ -1,0 +1,17 @@
+-- `forkskinny::side_of` meets its contract: by cases. Assumes nothing.
+use mathlib.Core.Path.{refl}
+use Rattle.forkskinny.specs.declared.Branch.the-variants.{Far}
+use Rattle.forkskinny.specs.ForkSkinny.{sideOf}
+use Rattle.forkskinny.proofs.Places.{past-zero}
+use borrow.Author.Needs.{needs}
+use Rattle.forkskinny.proofs.side_of.Statement.{statement}
+use Rattle.forkskinny.proofs.side_of.Tie as tie
+
+returns : tie.Need-returns
+returns c = search needs
+
+returns-2 : tie.Need-returns-2
+returns-2 c = past-zero sideOf Far (λ k. refl) _ (c .if1 .left)
+
+pub side-of-spec : {M : Type 1} → statement M
+side-of-spec = tie.close (tie.spec returns returns-2)
