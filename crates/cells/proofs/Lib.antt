@@ -1,3 +1,4 @@
 pub mod Below
 pub mod Laws
+mod Steps
 pub mod Xor

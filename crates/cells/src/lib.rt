@@ -107,19 +107,19 @@ pub fn nibble_untable() -> [u8; 256]
 pub fn left_nibble(x: u8) -> u8
     ensures { λ r. ⌜ r ≡ step2 Nibble x ⌝ }
 {
-    x % 8 * 2 + (x / 8 % 2 + x / 4 % 2) % 2
+    x % 8 * 2 + (x ^ (x % 8 * 2)) / 8 % 2
 }
 
 // Word 2's step of a byte.
 pub fn left_byte(x: u8) -> u8
     ensures { λ r. ⌜ r ≡ step2 Byte x ⌝ }
 {
-    x % 128 * 2 + (x / 128 % 2 + x / 32 % 2) % 2
+    x % 128 * 2 + (x ^ (x % 64 * 4)) / 128
 }
 
 // Word 3's step of a nibble.
 pub fn right_nibble(x: u8) -> u8
     ensures { λ r. ⌜ r ≡ step3 Nibble x ⌝ }
 {
-    x % 16 / 2 + (x % 2 + x / 8 % 2) % 2 * 8
+    x % 16 / 2 + (x ^ (x / 8)) % 2 * 8
 }

@@ -50,7 +50,7 @@ pub tk-at : (c : Cipher) (key tweak : List ℕ) → (tk c key tweak) .at ≡ 0
 unfolding tk
 tk-at c key tweak = refl
 
-append-low : (w : Width) (a b : List ℕ) → LowCells w a → LowCells w b → LowCells w (a ++ b)
+pub append-low : (w : Width) (a b : List ℕ) → LowCells w a → LowCells w b → LowCells w (a ++ b)
 append-low w [] b p q k = q k
 append-low w (x ∷ a) b p q zero = p zero
 append-low w (x ∷ a) b p q (suc k) = append-low w a b (λ j. p (suc j)) q k

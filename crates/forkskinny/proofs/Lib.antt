@@ -1,2 +1,5 @@
+pub mod Conditions
+pub mod Forkcipher
 mod Parts
 mod Places
+mod Ways

@@ -1,5 +1,5 @@
 -- `cells::left_nibble` meets its contract: no sum wraps, and the result is the rule's. Assumes nothing.
-use Rattle.cells.specs.Cells.{step2}
+use Rattle.cells.proofs.Steps.{left-nibble}
 use borrow.Author.Needs.{needs}
 use Rattle.cells.proofs.left_nibble.Statement.{statement}
 use Rattle.cells.proofs.left_nibble.Tie as tie
@@ -7,15 +7,14 @@ use Rattle.cells.proofs.left_nibble.Tie as tie
 mul-result : tie.Need-mul-result
 mul-result c = search needs
 
+mul-result-2 : tie.Need-mul-result-2
+mul-result-2 c = search needs
+
 add-result : tie.Need-add-result
 add-result c = search needs
 
-add-result-2 : tie.Need-add-result-2
-add-result-2 c = search needs
-
 returns : tie.Need-returns
-unfolding step2
-returns c = search needs
+returns c = left-nibble (c .args .x) (search needs)
 
 pub left-nibble-spec : {M : Type 1} → statement M
-left-nibble-spec = tie.close (tie.spec mul-result add-result add-result-2 returns)
+left-nibble-spec = tie.close (tie.spec mul-result mul-result-2 add-result returns)

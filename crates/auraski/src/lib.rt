@@ -1,0 +1,47 @@
+// The entry points for C: plain numbers and byte runs. The header include/auraski.h tells a C programmer what each call means.
+ghost use mathlib.Core.Path.{_≡_};
+ghost use Rattle.forkskinny.specs.Calls.{forkOf, unforkOf};
+ghost use Rattle.auraski.specs.Entries.{forkTold, unforkTold};
+
+// ForkSkinny forward: the number, and both halves written.
+#[no_mangle]
+pub extern "C" fn auraski_fork(
+    cipher: u32,
+    key: &[u8; 16],
+    tweak: &[u8; 16],
+    block: &[u8; 16],
+    want: u32,
+    half0: &mut [u8; 16],
+    half1: &mut [u8; 16],
+) -> u32
+    ensures { λ r. ⌜ forkTold r (now (half0 .exit)) (now (half1 .exit)) ≡ forkOf cipher (now (key .entry)) (now (tweak .entry)) (now (block .entry)) want ⌝ }
+{
+    let f = forkskinny::fork(cipher, *key, *tweak, *block, want);
+    let a = f.half0;
+    let b = f.half1;
+    *half0 = a;
+    *half1 = b;
+    f.number
+}
+
+// ForkSkinny back from a half: the number, and the input block and the other half written.
+#[no_mangle]
+pub extern "C" fn auraski_unfork(
+    cipher: u32,
+    key: &[u8; 16],
+    tweak: &[u8; 16],
+    block: &[u8; 16],
+    from: u32,
+    want: u32,
+    input: &mut [u8; 16],
+    other: &mut [u8; 16],
+) -> u32
+    ensures { λ r. ⌜ unforkTold r (now (input .exit)) (now (other .exit)) ≡ unforkOf cipher (now (key .entry)) (now (tweak .entry)) (now (block .entry)) from want ⌝ }
+{
+    let f = forkskinny::unfork(cipher, *key, *tweak, *block, from, want);
+    let a = f.input;
+    let b = f.other;
+    *input = a;
+    *other = b;
+    f.number
+}
