@@ -1,0 +1,97 @@
+//! The block calls (document 01, "What a caller is told"). Numbers: cipher 1
+//! is 64-192, 2 is 128-256. Forward: want 0 half 0, 1 half 1, 2 both. Back:
+//! from half 0 or 1; want 0 the input, 1 the other half, 2 both.
+
+use crate::cells::block_bytes;
+use crate::forkskinny::{Cipher, CIPHERS};
+
+pub const DONE: u32 = 0;
+/// An unknown cipher, half or choice.
+pub const REFUSED: u32 = 1;
+
+/// Longest tweakey of any cipher: three words of sixteen bytes.
+const MOST_TWEAKEY_BYTES: usize = 48;
+
+/// What a forward call answers. What was not asked for is zero.
+#[derive(Clone, Copy, PartialEq, Eq, Debug)]
+pub struct Fork {
+    pub number: u32,
+    pub half0: [u8; 16],
+    pub half1: [u8; 16],
+}
+
+/// What a call back answers. What was not asked for is zero.
+#[derive(Clone, Copy, PartialEq, Eq, Debug)]
+pub struct Unfork {
+    pub number: u32,
+    pub input: [u8; 16],
+    pub other: [u8; 16],
+}
+
+fn find_cipher(cipher: u32) -> Option<&'static Cipher> {
+    CIPHERS.get((cipher as usize).checked_sub(1)?)
+}
+
+/// Whether the first, and whether the second block of the answer is asked for.
+fn find_choice(want: u32) -> Option<[bool; 2]> {
+    match want {
+        0 => Some([true, false]),
+        1 => Some([false, true]),
+        2 => Some([true, true]),
+        _ => None,
+    }
+}
+
+/// Key first, then as much of the tweak as counts (001, figure 4, line 2).
+fn tweakey_run(cipher: &Cipher, key: &[u8; 16], tweak: &[u8; 16]) -> [u8; MOST_TWEAKEY_BYTES] {
+    let mut run = [0; MOST_TWEAKEY_BYTES];
+    let tweak_bytes = cipher.words * block_bytes(cipher.width) - key.len();
+    run[..16].copy_from_slice(key);
+    run[16..16 + tweak_bytes].copy_from_slice(&tweak[..tweak_bytes]);
+    run
+}
+
+pub fn fork(cipher: u32, key: &[u8; 16], tweak: &[u8; 16], block: &[u8; 16], want: u32) -> Fork {
+    match (find_cipher(cipher), find_choice(want)) {
+        (Some(cipher), Some(wanted)) => {
+            let run = tweakey_run(cipher, key, tweak);
+            let [half0, half1] = cipher.fork(&run, block, wanted);
+            Fork {
+                number: DONE,
+                half0,
+                half1,
+            }
+        }
+        _ => Fork {
+            number: REFUSED,
+            half0: [0; 16],
+            half1: [0; 16],
+        },
+    }
+}
+
+pub fn unfork(
+    cipher: u32,
+    key: &[u8; 16],
+    tweak: &[u8; 16],
+    block: &[u8; 16],
+    from: u32,
+    want: u32,
+) -> Unfork {
+    match (find_cipher(cipher), find_choice(want)) {
+        (Some(cipher), Some(wanted)) if from < 2 => {
+            let run = tweakey_run(cipher, key, tweak);
+            let [input, other] = cipher.unfork(&run, block, from as usize, wanted);
+            Unfork {
+                number: DONE,
+                input,
+                other,
+            }
+        }
+        _ => Unfork {
+            number: REFUSED,
+            input: [0; 16],
+            other: [0; 16],
+        },
+    }
+}

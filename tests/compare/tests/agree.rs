@@ -1,0 +1,166 @@
+//! The library, through its C entry points, against the second program: every
+//! number and every byte of both result blocks.
+
+use compare::calls::{fork, unfork, Fork, Unfork};
+use compare::random::Random;
+use compare::{auraski, calls};
+use std::collections::BTreeMap;
+
+type Block = [u8; 16];
+
+/// Known and unknown numbers of each argument.
+const CIPHERS: [u32; 6] = [0, 1, 2, 3, 7, u32::MAX];
+const FROMS: [u32; 5] = [0, 1, 2, 7, u32::MAX];
+const WANTS: [u32; 6] = [0, 1, 2, 3, 7, u32::MAX];
+
+const TIMES_EACH: usize = 500;
+const LEAST_CALLS: usize = 20_000;
+
+#[derive(Clone, Copy, PartialEq, Eq, PartialOrd, Ord, Debug)]
+enum Kind {
+    Forward { cipher: u32, want: u32 },
+    Back { cipher: u32, from: u32, want: u32 },
+}
+
+impl Kind {
+    fn is_known(self) -> bool {
+        match self {
+            Kind::Forward { cipher, want } => (1..=2).contains(&cipher) && want <= 2,
+            Kind::Back { cipher, from, want } => {
+                (1..=2).contains(&cipher) && from <= 1 && want <= 2
+            }
+        }
+    }
+}
+
+fn every_kind() -> Vec<Kind> {
+    let mut kinds = Vec::new();
+    for cipher in CIPHERS {
+        for want in WANTS {
+            kinds.push(Kind::Forward { cipher, want });
+            kinds.extend(FROMS.map(|from| Kind::Back { cipher, from, want }));
+        }
+    }
+    kinds
+}
+
+/// Compares one call both ways. The library's result blocks are filled before
+/// it, the one with a byte and the other with that byte's complement.
+fn compare(kind: Kind, [key, tweak, block]: &[Block; 3], filling: u8) {
+    let (mut first, mut second) = ([filling; 16], [!filling; 16]);
+    let room = [&mut first, &mut second];
+    match kind {
+        Kind::Forward { cipher, want } => {
+            let number = auraski::fork(cipher, key, tweak, block, want, room);
+            let library = Fork {
+                number,
+                half0: first,
+                half1: second,
+            };
+            assert_eq!(library, fork(cipher, key, tweak, block, want), "{:?}", kind);
+        }
+        Kind::Back { cipher, from, want } => {
+            let number = auraski::unfork(cipher, key, tweak, block, from, want, room);
+            let library = Unfork {
+                number,
+                input: first,
+                other: second,
+            };
+            assert_eq!(
+                library,
+                unfork(cipher, key, tweak, block, from, want),
+                "{:?}",
+                kind
+            );
+        }
+    }
+}
+
+#[test]
+fn random_calls_agree() {
+    let mut random = Random::new(2024);
+    let mut seen: BTreeMap<Kind, usize> = BTreeMap::new();
+    for kind in every_kind() {
+        for _ in 0..TIMES_EACH {
+            let inputs = [random.block(), random.block(), random.block()];
+            compare(kind, &inputs, random.number() as u8);
+            *seen.entry(kind).or_insert(0) += 1;
+        }
+    }
+    let calls: usize = seen.values().sum();
+    let known: usize = seen
+        .iter()
+        .filter(|(kind, _)| kind.is_known())
+        .map(|(_, n)| n)
+        .sum();
+    println!(
+        "{} random calls agree, {} of them with known numbers",
+        calls, known
+    );
+    assert!(calls >= LEAST_CALLS);
+    assert_eq!(seen.keys().filter(|kind| kind.is_known()).count(), 18);
+    assert!(every_kind()
+        .iter()
+        .all(|kind| seen.get(kind) >= Some(&TIMES_EACH)));
+}
+
+/// The known kinds only, on further random inputs: these run the ciphers.
+#[test]
+fn random_calls_with_known_numbers_agree() {
+    let mut random = Random::new(2025);
+    let mut calls = 0;
+    for kind in every_kind().into_iter().filter(|kind| kind.is_known()) {
+        for _ in 0..2 * TIMES_EACH {
+            let inputs = [random.block(), random.block(), random.block()];
+            compare(kind, &inputs, random.number() as u8);
+            calls += 1;
+        }
+    }
+    println!("{} random calls with known numbers agree", calls);
+}
+
+/// All zero, all ones, and every mixture of the two over key, tweak, block.
+#[test]
+fn plain_inputs_agree() {
+    for kind in every_kind() {
+        for mixture in 0..8u32 {
+            let inputs =
+                [0, 1, 2].map(|place| [0u8.wrapping_sub((mixture >> place & 1) as u8); 16]);
+            compare(kind, &inputs, 0xa5);
+        }
+    }
+}
+
+/// A single one among zeros, and a single zero among ones, at every bit of
+/// key, tweak and block.
+#[test]
+fn single_bits_agree() {
+    for kind in every_kind().into_iter().filter(|kind| kind.is_known()) {
+        for bit in 0..3 * 128 {
+            for background in [0x00, 0xff] {
+                let mut inputs = [[background; 16]; 3];
+                inputs[bit / 128][bit % 128 / 8] ^= 0x80 >> (bit % 8);
+                compare(kind, &inputs, 0x5a);
+            }
+        }
+    }
+}
+
+/// What the library makes forward, the second program takes back.
+#[test]
+fn each_undoes_the_other() {
+    let mut random = Random::new(2026);
+    for cipher in 1..=2 {
+        for from in 0..2 {
+            let (key, tweak, block) = (random.block(), random.block(), random.block());
+            let mut halves = [[0; 16]; 2];
+            let [half0, half1] = &mut halves;
+            auraski::fork(cipher, &key, &tweak, &block, 2, [half0, half1]);
+            let back = unfork(cipher, &key, &tweak, &halves[from], from as u32, 2);
+            let counted = if cipher == 1 { 8 } else { 16 };
+            assert_eq!(back.number, calls::DONE);
+            assert_eq!(back.input[..counted], block[..counted]);
+            assert_eq!(back.other, halves[1 - from]);
+        }
+    }
+}
