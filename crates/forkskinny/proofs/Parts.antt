@@ -1,6 +1,6 @@
 -- What the parts of a block call are told makes the call's answer: the hypotheses are the parts' contracts, word for word.
 -- Assumes nothing.
-use mathlib.Core.Path.{_≡_, ap, subst, subst⁻¹, _∙_}
+use mathlib.Core.Path.{_≡_, refl, subst, subst⁻¹, _∙_}
 use mathlib.Core.Bool.{Bool, true}
 use mathlib.Core.List.{List}
 use Prim.Native.Nat.{ℕ, _+_}
@@ -16,7 +16,7 @@ use Rattle.forkskinny.specs.declared.Unforked.{Unforked}
 use Rattle.forkskinny.specs.ForkSkinny.{sideOf, otherOf, startOf, forked, branch, unbranch, unforked, half, input, other}
 use Rattle.forkskinny.specs.Reach.{reachOf, takesFar}
 use Rattle.forkskinny.specs.Calls.{given, wants, forkBy, unforkBy}
-use Rattle.forkskinny.proofs.Places.{reach-init, reach-near, reach-far, reach-from, reach-other}
+use Rattle.forkskinny.proofs.Places.{reach-init, reach-branch, far-first, far-second}
 
 -- the keys of the first m rounds of a cipher
 abbrev Keys : Cipher → ℕ → Tweakey → List (List ℕ) → Type 0
@@ -25,21 +25,21 @@ Keys c m t keys = RoundKeys (widthOf c) (wordsOf c) m t keys
 module _ (c : Cipher) (key tweak block : List ℕ) (want : ℕ) {first second : Bool} {m : ℕ} {t : Tweakey} {keys : List (List ℕ)}
     (e₀ : first ≡ wants 0 want) (e₁ : second ≡ wants 1 want) (et : t ≡ tk c key tweak) (known : Keys c m t keys) where
   pub fork-parts
-      : {s : State} {half0 half1 : List ℕ} → m ≡ reachOf c second
+      : {s : State} {half0 half1 : List ℕ} {far : Bool} → m ≡ reachOf c far → far ≡ takesFar first 0 second 1
       → ((t : Tweakey) → Keys c (initOf c) t keys → s ≡ forked c t block)
       → ((t : Tweakey) → (first ≡ true → Keys c (startOf c (sideOf 0) + branchOf c) t keys) → half0 ≡ given first (branch c (sideOf 0) t s))
       → ((t : Tweakey) → (second ≡ true → Keys c (startOf c (sideOf 1) + branchOf c) t keys) → half1 ≡ given second (branch c (sideOf 1) t s))
       → _≡_ {A = Forked} (record { number = 0; half0 = half0; half1 = half1 }) (forkBy c key tweak block want)
   unfolding half
-  fork-parts em at-fork h₀ h₁ =
+  fork-parts {far = far} em ef at-fork h₀ h₁ =
       let k = subst (λ (m : ℕ). Keys c m t keys) em known in
-      let s = at-fork t (fewer k (initOf c) (reach-init c second)) ∙ (λ i. forked c (et i) block) in
-      let a = h₀ t (λ yes. fewer k _ (reach-near c second)) ∙ (λ i. given (e₀ i) (branch c (sideOf 0) (et i) (s i))) in
-      let b = h₁ t (λ yes. fewer k _ (reach-far c second yes)) ∙ (λ i. given (e₁ i) (branch c (sideOf 1) (et i) (s i))) in
+      let s = at-fork t (fewer k (initOf c) (reach-init c far)) ∙ (λ i. forked c (et i) block) in
+      let a = h₀ t (λ yes. fewer k _ (reach-branch c (sideOf 0) far (λ q. ef ∙ far-first first 0 second 1 yes q))) ∙ (λ i. given (e₀ i) (branch c (sideOf 0) (et i) (s i))) in
+      let b = h₁ t (λ yes. fewer k _ (reach-branch c (sideOf 1) far (λ q. ef ∙ far-second first 0 second 1 yes q))) ∙ (λ i. given (e₁ i) (branch c (sideOf 1) (et i) (s i))) in
       λ i. record { number = 0; half0 = a i; half1 = b i }
 
   pub unfork-parts
-      : (from : ℕ) {far : Bool} {side : Branch} {o : ℕ} {s : State} {input′ other′ : List ℕ} → m ≡ reachOf c far → far ≡ takesFar from second
+      : (from : ℕ) {far : Bool} {side : Branch} {o : ℕ} {s : State} {input′ other′ : List ℕ} → m ≡ reachOf c far → far ≡ takesFar true from second o
       → side ≡ sideOf from → o ≡ otherOf from
       → ((t : Tweakey) → Keys c (startOf c side + branchOf c) t keys → s ≡ unbranch c side t block)
       → ((t : Tweakey) → Keys c (initOf c) t keys → input′ ≡ given first (unforked c t s))
@@ -47,12 +47,12 @@ module _ (c : Cipher) (key tweak block : List ℕ) (want : ℕ) {first second : 
       → _≡_ {A = Unforked} (record { number = 0; input = input′; other = other′ }) (unforkBy c key tweak block from want)
   unfolding input other
   unfork-parts from {far} {side} {o} em ef es eo back h₀ h₁ =
-      let k = subst (λ (m : ℕ). Keys c m t keys) (em ∙ ap (reachOf c) ef) known in
-      let here = fewer k _ (reach-from c from second) in
+      let k = subst (λ (m : ℕ). Keys c m t keys) em known in
+      let here = fewer k _ (reach-branch c (sideOf from) far (λ q. ef ∙ far-first true from second o refl q)) in
       let s =
       back t (subst⁻¹ (λ (b : Branch). Keys c (startOf c b + branchOf c) t keys) es here) ∙ (λ i. unbranch c (es i) (et i) block) in
-      let a = h₀ t (fewer k _ (reach-init c (takesFar from second))) ∙ (λ i. given (e₀ i) (unforked c (et i) (s i))) in
+      let a = h₀ t (fewer k _ (reach-init c far)) ∙ (λ i. given (e₀ i) (unforked c (et i) (s i))) in
       let b =
-      h₁ t (λ yes. subst⁻¹ (λ (h : ℕ). Keys c (startOf c (sideOf h) + branchOf c) t keys) eo (fewer k _ (reach-other c from second yes)))
+      h₁ t (λ yes. fewer k _ (reach-branch c (sideOf o) far (λ q. ef ∙ far-second true from second o yes q)))
       ∙ (λ i. given (e₁ i) (branch c (sideOf (eo i)) (et i) (s i))) in
       λ i. record { number = 0; input = a i; other = b i }

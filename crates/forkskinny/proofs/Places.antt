@@ -9,8 +9,9 @@ use Rattle.ciphers.specs.Ciphers.{initOf, branchOf}
 use Rattle.ciphers.proofs.Laws.{fit}
 use Rattle.forkskinny.specs.declared.Branch.{Branch}
 use Rattle.forkskinny.specs.declared.Branch.the-variants.{Near, Far}
-use Rattle.forkskinny.specs.ForkSkinny.{startOf, sideOf, otherOf}
-use Rattle.forkskinny.specs.Reach.{reachOf, takesFar}
+use Rattle.forkskinny.specs.ForkSkinny.{startOf, sideOf}
+use Rattle.forkskinny.specs.Calls.{pick}
+use Rattle.forkskinny.specs.Reach.{isFar, farIf, takesFar, reachOf}
 
 -- a function's value past 0
 pub past-zero : {A : Type 0} (f : ℕ → A) (a : A) → ((k : ℕ) → a ≡ f (suc k)) → (h : ℕ) → (h ≡ 0 → ⊥) → a ≡ f h
@@ -26,24 +27,25 @@ module _ (c : Cipher) where
   reach-fit true = branch-fit c Far
   reach-fit false = branch-fit c Near
 
-  -- the rounds before the fork and the near branch are always laid out
+  -- the rounds before the fork are always laid out
   pub reach-init : (far : Bool) → initOf c ≤ reachOf c far
   reach-init true = omega arith
   reach-init false = omega arith
 
-  pub reach-near : (far : Bool) → startOf c Near + branchOf c ≤ reachOf c far
-  reach-near true = omega arith
-  reach-near false = omega arith
+  -- so is the near branch; and the far one where it is taken
+  pub reach-branch : (b : Branch) (far : Bool) → (isFar b ≡ true → far ≡ true) → startOf c b + branchOf c ≤ reachOf c far
+  reach-branch Near true p = omega arith
+  reach-branch Near false p = omega arith
+  reach-branch Far true p = omega arith
+  reach-branch Far false p = absurd (true≢false (sym (p refl)))
 
-  -- the far branch is laid out where it is taken: forward for half 1; back from half 1, or from half 0 for the other half
-  pub reach-far : (far : Bool) → far ≡ true → startOf c Far + branchOf c ≤ reachOf c far
-  reach-far true p = omega arith
-  reach-far false p = absurd (true≢false (sym p))
+either : (t : Bool) → pick t true true ≡ true
+either true = refl
+either false = refl
 
-  pub reach-from : (h : ℕ) (asked : Bool) → startOf c (sideOf h) + branchOf c ≤ reachOf c (takesFar h asked)
-  reach-from zero asked = reach-near asked
-  reach-from (suc h) asked = omega arith
+-- a half that is asked for is given by a branch that is laid out: the first of two halves, and the second
+pub far-first : (a : Bool) (h : ℕ) (b : Bool) (k : ℕ) → a ≡ true → isFar (sideOf h) ≡ true → takesFar a h b k ≡ true
+far-first a h b k p q = simp (p, q)
 
-  pub reach-other : (h : ℕ) (asked : Bool) → asked ≡ true → startOf c (sideOf (otherOf h)) + branchOf c ≤ reachOf c (takesFar h asked)
-  reach-other zero asked p = reach-far asked p
-  reach-other (suc h) asked p = omega arith
+pub far-second : (a : Bool) (h : ℕ) (b : Bool) (k : ℕ) → b ≡ true → isFar (sideOf k) ≡ true → takesFar a h b k ≡ true
+far-second a h b k p q = simp (p, q) (either (farIf a h))

@@ -7,7 +7,7 @@ ghost use Rattle.schedule.specs.declared.Tweakey.{Tweakey};
 ghost use Rattle.schedule.specs.Schedule.{RoundKeys};
 ghost use Rattle.ciphers.specs.Ciphers.{widthOf, wordsOf, initOf, branchOf};
 ghost use Rattle.forkskinny.specs.ForkSkinny.{sideOf, otherOf, startOf, enter, forked, branch, unbranch, unforked};
-ghost use Rattle.forkskinny.specs.Reach.{reachOf, takesFar};
+ghost use Rattle.forkskinny.specs.Reach.{farIf, takesFar, reachOf};
 ghost use Rattle.forkskinny.specs.Calls.{given, wants, forkBy, forkOf, unforkBy, unforkOf};
 use ciphers::Cipher;
 
@@ -39,6 +39,30 @@ fn start_of(c: Cipher, b: Branch) -> usize
         Branch::Near => ciphers::init_of(c),
         Branch::Far => ciphers::init_of(c) + ciphers::branch_of(c),
     }
+}
+
+// Half h is asked for, and the far branch gives it.
+fn far_if(asked: bool, h: u32) -> bool
+    ensures { λ r. ⌜ r ≡ farIf asked h ⌝ }
+{
+    if asked {
+        let b = side_of(h);
+        return match b {
+            Branch::Near => false,
+            Branch::Far => true,
+        };
+    }
+    false
+}
+
+// The far branch is taken for half h or for half k, where they are asked for.
+fn takes_far(a: bool, h: u32, b: bool, k: u32) -> bool
+    ensures { λ r. ⌜ r ≡ takesFar a h b k ⌝ }
+{
+    if far_if(a, h) {
+        return true;
+    }
+    far_if(b, k)
 }
 
 // The rounds whose keys a call takes: to the end of the near branch, or of the far one.
@@ -175,7 +199,8 @@ fn fork_by(c: Cipher, key: [u8; 16], tweak: [u8; 16], block: [u8; 16], want: u32
 {
     let first = is_wanted(0, want);
     let second = is_wanted(1, want);
-    let m = reach_of(c, second);
+    let far = takes_far(first, 0, second, 1);
+    let m = reach_of(c, far);
     let keys = ciphers::round_keys(c, m, ciphers::load_key(c, key, tweak));
     let table = ciphers::table_of(c);
     let s = to_fork(c, &table, &keys, block);
@@ -219,16 +244,6 @@ pub struct Unforked {
     pub other: [u8; 16],
 }
 
-// Going back from half `from`, with the other half asked for or not, takes the far branch.
-fn takes_far(from: u32, asked: bool) -> bool
-    ensures { λ r. ⌜ r ≡ takesFar from asked ⌝ }
-{
-    if from == 0 {
-        return asked;
-    }
-    true
-}
-
 fn unfork_by(
     c: Cipher,
     key: [u8; 16],
@@ -241,14 +256,15 @@ fn unfork_by(
 {
     let first = is_wanted(0, want);
     let second = is_wanted(1, want);
-    let far = takes_far(from, second);
+    let to = other_of(from);
+    let far = takes_far(true, from, second, to);
     let m = reach_of(c, far);
     let keys = ciphers::round_keys(c, m, ciphers::load_key(c, key, tweak));
     let table = ciphers::table_of(c);
     let untable = ciphers::untable_of(c);
     let s = unrun_branch(c, side_of(from), &untable, &keys, block);
     let input = input_if(first, c, &untable, &keys, s);
-    let other = half_if(second, c, other_of(from), &table, &keys, s);
+    let other = half_if(second, c, to, &table, &keys, s);
     Unforked {
         number: 0,
         input,

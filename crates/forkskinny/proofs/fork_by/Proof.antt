@@ -15,6 +15,9 @@ is-wanted-requires c κs = search needs
 is-wanted-requires-2 : tie.Need-is-wanted-requires-2
 is-wanted-requires-2 c κs = search needs
 
+takes-far-requires : tie.Need-takes-far-requires
+takes-far-requires c κs = search needs
+
 reach-of-requires : tie.Need-reach-of-requires
 reach-of-requires c κs = search needs
 
@@ -23,8 +26,8 @@ load-key-requires c κs = search needs
 
 round-keys-requires : tie.Need-round-keys-requires
 round-keys-requires c κs =
-    let a = c .before .before .before .before .args in (
-      omega (arith, reach-fit (a .c) (c .before .before .is-wanted2 .result), c .before .reach-of .ensures),
+    let a = c .before .before .before .before .before .args in (
+      omega (arith, reach-fit (a .c) (c .before .before .takes-far .result), c .before .reach-of .ensures),
       ap (λ (t : Tweakey). t .at) (c .load-key .ensures) ∙ tk-at (a .c) (a .key) (a .tweak),
     )
 
@@ -46,10 +49,10 @@ returns c =
     let c₆ = c₃ .before .before .before in
     let c₁₀ = c₆ .before .before .before .before in
     let c₁₂ = c₁₀ .before .before in
-    let a = c₁₂ .before .before .before .args in
-    fork-parts (a .c) (a .key) (a .tweak) (a .block) (a .want) (c₁₂ .before .before .is-wanted .ensures) (c₁₂ .before .is-wanted2 .ensures)
-    (c₁₀ .before .load-key .ensures) (c₁₀ .round-keys .ensures) (c₁₂ .reach-of .ensures) (c₆ .to-fork .ensures) (c₃ .half-if .ensures)
-    (c .half-if2 .ensures)
+    let a = c₁₂ .before .before .before .before .args in
+    fork-parts (a .c) (a .key) (a .tweak) (a .block) (a .want) (c₁₂ .before .before .before .is-wanted .ensures) (c₁₂ .before .before .is-wanted2 .ensures)
+    (c₁₀ .before .load-key .ensures) (c₁₀ .round-keys .ensures) (c₁₂ .reach-of .ensures) (c₁₂ .before .takes-far .ensures) (c₆ .to-fork .ensures)
+    (c₃ .half-if .ensures) (c .half-if2 .ensures)
 
 pub fork-by-spec : {M : Type 1} → statement M
 fork-by-spec =
@@ -57,6 +60,7 @@ fork-by-spec =
     (tie.spec
     is-wanted-requires
     is-wanted-requires-2
+    takes-far-requires
     reach-of-requires
     load-key-requires
     round-keys-requires

@@ -15,6 +15,9 @@ is-wanted-requires c κs = search needs
 is-wanted-requires-2 : tie.Need-is-wanted-requires-2
 is-wanted-requires-2 c κs = search needs
 
+other-of-requires : tie.Need-other-of-requires
+other-of-requires c κs = search needs
+
 takes-far-requires : tie.Need-takes-far-requires
 takes-far-requires c κs = search needs
 
@@ -26,7 +29,7 @@ load-key-requires c κs = search needs
 
 round-keys-requires : tie.Need-round-keys-requires
 round-keys-requires c κs =
-    let a = c .before .before .before .before .before .args in (
+    let a = c .before .before .before .before .before .before .args in (
       omega (arith, reach-fit (a .c) (c .before .before .takes-far .result), c .before .reach-of .ensures),
       ap (λ (t : Tweakey). t .at) (c .load-key .ensures) ∙ tk-at (a .c) (a .key) (a .tweak),
     )
@@ -46,24 +49,20 @@ unrun-branch-requires c κs = search needs
 input-if-requires : tie.Need-input-if-requires
 input-if-requires c κs = search needs
 
-other-of-requires : tie.Need-other-of-requires
-other-of-requires c κs = search needs
-
 half-if-requires : tie.Need-half-if-requires
 half-if-requires c κs = search needs
 
 returns : tie.Need-returns
 returns c =
     let c₃ = c .before .before .before in
-    let c₄ = c₃ .before in
-    let c₇ = c₄ .before .before .before in
-    let c₁₀ = c₇ .before .before .before in
-    let c₁₃ = c₁₀ .before .before .before in
-    let c₁₅ = c₁₃ .before .before in
-    let a = c₁₅ .before .before .before .before .args in
-    unfork-parts (a .c) (a .key) (a .tweak) (a .block) (a .want) (c₁₅ .before .before .before .is-wanted .ensures) (c₁₅ .before .before .is-wanted2 .ensures)
-    (c₁₃ .before .load-key .ensures) (c₁₃ .round-keys .ensures) (a .from) (c₁₅ .reach-of .ensures) (c₁₅ .before .takes-far .ensures)
-    (c₁₀ .side-of .ensures) (c₃ .other-of .ensures) (c₇ .unrun-branch .ensures) (c₄ .input-if .ensures) (c .half-if .ensures)
+    let c₆ = c₃ .before .before .before in
+    let c₉ = c₆ .before .before .before in
+    let c₁₂ = c₉ .before .before .before in
+    let c₁₄ = c₁₂ .before .before in
+    let a = c₁₄ .before .before .before .before .before .args in
+    unfork-parts (a .c) (a .key) (a .tweak) (a .block) (a .want) (c₁₄ .before .before .before .before .is-wanted .ensures) (c₁₄ .before .before .before .is-wanted2 .ensures)
+    (c₁₂ .before .load-key .ensures) (c₁₂ .round-keys .ensures) (a .from) (c₁₄ .reach-of .ensures) (c₁₄ .before .takes-far .ensures)
+    (c₉ .side-of .ensures) (c₁₄ .before .before .other-of .ensures) (c₆ .unrun-branch .ensures) (c₃ .input-if .ensures) (c .half-if .ensures)
 
 pub unfork-by-spec : {M : Type 1} → statement M
 unfork-by-spec =
@@ -71,6 +70,7 @@ unfork-by-spec =
     (tie.spec
     is-wanted-requires
     is-wanted-requires-2
+    other-of-requires
     takes-far-requires
     reach-of-requires
     load-key-requires
@@ -80,6 +80,5 @@ unfork-by-spec =
     side-of-requires
     unrun-branch-requires
     input-if-requires
-    other-of-requires
     half-if-requires
     returns)
