@@ -1,6 +1,5 @@
 -- The laws of the cells, over the width: the tables undo each other, the steps of words 2 and 3 undo each other, and all stay
 -- below the width's size. Assumes nothing.
-use mathlib.Core.Path.{_≡_}
 use mathlib.Core.List.{List}
 use Prim.Native.Nat.{ℕ, _<_}
 use Rattle.cells.specs.Cells.{Width, Nibble, Byte, size, sub, unsub, sub8, unsub8, flips, turn, unturn, swap, step2, step3}

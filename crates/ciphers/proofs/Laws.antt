@@ -8,17 +8,16 @@ use lib.Dec.{lit≤}
 use lib.ListN.{length, getD, take, replicate}
 use lib.Bits.{bitXor}
 use lib.Seq.{ext-getD, getD-take, length-take-le, take-all}
-use Rattle.cells.specs.Cells.{Width, Nibble, Byte, size, step2}
+use Rattle.cells.specs.Cells.{Width, Nibble, Byte, size}
 use Rattle.cells.proofs.Below.{tab, table}
 use Rattle.cells.proofs.Laws.{LowCells, step2-law, small-low, xor-low}
 use Rattle.cells.proofs.Xor.{xor-last}
-use Rattle.schedule.specs.declared.Tweakey.{Tweakey}
 use Rattle.schedule.proofs.Low.{tab-low}
-use Rattle.rounds.specs.State.{State, cell, grid}
+use Rattle.rounds.specs.State.{State, cell}
 use Rattle.rounds.proofs.Undo.{Cells, low-grid}
 use Rattle.ciphers.specs.declared.Cipher.{Cipher}
 use Rattle.ciphers.specs.declared.Cipher.the-variants.{N64T192, N128T256}
-use Rattle.ciphers.specs.Ciphers.{widthOf, initOf, branchOf, nibbleFrom, cellOf, load, unload, counted, sixteen, keyCells, tk, stepsFrom1, branchConstant, addBranch}
+use Rattle.ciphers.specs.Ciphers.{widthOf, initOf, branchOf, nibbleFrom, cellOf, load, unload, counted, sixteen, tk, stepsFrom1, branchConstant, addBranch}
 
 -- the constants are enough
 pub fit : (c : Cipher) → initOf c + (branchOf c + branchOf c) ≤ 87

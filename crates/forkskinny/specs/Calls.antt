@@ -1,7 +1,7 @@
 -- The block calls: what a caller is told, for every number (document 01, "What a caller is told"). Ciphers: 1 is 64-192,
 -- 2 is 128-256. Wanted: 0 the first result, 1 the second, 2 both; forward these are half 0 and half 1, back the input and the
 -- other half. Assumes nothing.
-use Prim.Native.Nat.{ℕ, zero, suc}
+use Prim.Native.Nat.{ℕ}
 use mathlib.Core.Bool.{Bool, true, false}
 use mathlib.Core.List.{List}
 use lib.Dec.{eqb, ltb}

@@ -1,7 +1,7 @@
 // ForkSkinny: the fork forward and back, and the block calls.
 ghost use mathlib.Core.Path.{_≡_};
 ghost use mathlib.Core.Bool.{true};
-ghost use Prim.Native.Nat.{_+_, _≤_};
+ghost use Prim.Native.Nat.{_+_};
 ghost use Rattle.cells.specs.Cells.{Tabulates, sub, unsub};
 ghost use Rattle.schedule.specs.declared.Tweakey.{Tweakey};
 ghost use Rattle.schedule.specs.Schedule.{RoundKeys};

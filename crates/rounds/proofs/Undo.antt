@@ -1,12 +1,10 @@
 -- A round undone, and a round back undone: each step undoes its step back, over the width; and what a step makes of cells are cells.
 -- Assumes nothing.
-use mathlib.Core.Path.{_≡_, refl, sym, ap, _∙_}
-use mathlib.Core.List.{List, [], _∷_}
+use mathlib.Core.Path.{_≡_, refl, ap, _∙_}
+use mathlib.Core.List.{List}
 use Prim.Native.Nat.{ℕ, zero, suc, _+_, _/_, _%_, _<_}
-use native.Mathlib.Nat.{mod-lt}
 use native.Mathlib.Omega.{arith}
 use lib.ListN.{getD}
-use lib.Bits.{bitXor}
 use Rattle.cells.specs.Cells.{Width, size, sub, unsub}
 use Rattle.cells.proofs.Below.{Undoes}
 use Rattle.cells.proofs.Laws.{LowCells, sub-law, unsub-law, xor-low, small-low}

@@ -1,7 +1,7 @@
 -- What the loops over rounds keep: so many rounds are run, or so many are still to be undone. Assumes nothing.
 use mathlib.Core.Path.{_≡_, refl, sym, ap, ap₂, _∙_}
 use mathlib.Core.List.{List, []}
-use Prim.Native.Nat.{ℕ, zero, suc, _+_, _<_, _≤_}
+use Prim.Native.Nat.{ℕ, suc, _+_, _<_, _≤_}
 use native.Mathlib.Numerals.{add-one}
 use native.Mathlib.Omega.{arith}
 use lib.ListN.{getD}
@@ -11,7 +11,7 @@ use Rattle.schedule.specs.Constants.{constant}
 use Rattle.schedule.specs.Schedule.{roundKey, advance, RoundKeys}
 use Rattle.schedule.proofs.Places.{advance-at, advance-add}
 use Rattle.rounds.specs.State.{State, round, unround}
-use Rattle.runs.specs.Runs.{roundAt, unroundAt, rounds, unrounds, Ran, Unran}
+use Rattle.runs.specs.Runs.{roundAt, rounds, unrounds, Ran, Unran}
 
 -- the tweakey of round from + i, whose keys stand at that place
 module _ {w : Width} {n : Words} {t : Tweakey} {m : ℕ} {keys : List (List ℕ)} (known : RoundKeys w n m t keys) where

@@ -1,5 +1,4 @@
 -- `forkskinny::fork` meets its contract: one return for each case. Assumes nothing.
-use mathlib.Core.Path.{_∙_}
 use borrow.Author.Tests.{eq-eqb, ne-eqb, lt-ltb, le-ltb}
 use Rattle.forkskinny.specs.Calls.{forkOf}
 use borrow.Author.Needs.{needs}

@@ -1,5 +1,4 @@
 -- `forkskinny::unfork` meets its contract: one return for each case. Assumes nothing.
-use mathlib.Core.Path.{_∙_}
 use borrow.Author.Tests.{eq-eqb, ne-eqb, lt-ltb, le-ltb}
 use Rattle.forkskinny.specs.Calls.{unforkOf}
 use borrow.Author.Needs.{needs}
