@@ -8,7 +8,7 @@ ghost use Rattle.schedule.specs.Schedule.{RoundKeys};
 ghost use Rattle.ciphers.specs.Ciphers.{widthOf, wordsOf, initOf, branchOf};
 ghost use Rattle.forkskinny.specs.ForkSkinny.{sideOf, otherOf, startOf, enter, forked, branch, unbranch, unforked};
 ghost use Rattle.forkskinny.specs.Reach.{farIf, takesFar, reachOf};
-ghost use Rattle.forkskinny.specs.Calls.{given, wants, forkBy, forkOf, unforkBy, unforkOf};
+ghost use Rattle.forkskinny.specs.Calls.{given, wants, forkRefused, forkBy, forkOf, unforkRefused, unforkBy, unforkOf};
 use ciphers::Cipher;
 
 // After the fork the near branch goes on, and the far one takes the rounds after it.
@@ -194,6 +194,16 @@ pub struct Forked {
     pub half1: [u8; 16],
 }
 
+fn fork_refused() -> Forked
+    ensures { λ r. ⌜ r ≡ forkRefused ⌝ }
+{
+    Forked {
+        number: 1,
+        half0: [0u8; 16],
+        half1: [0u8; 16],
+    }
+}
+
 fn fork_by(c: Cipher, key: [u8; 16], tweak: [u8; 16], block: [u8; 16], want: u32) -> Forked
     ensures { λ r. ⌜ r ≡ forkBy c key tweak block want ⌝ }
 {
@@ -218,11 +228,7 @@ pub fn fork(cipher: u32, key: [u8; 16], tweak: [u8; 16], block: [u8; 16], want: 
     ensures { λ r. ⌜ r ≡ forkOf cipher key tweak block want ⌝ }
 {
     if 2 < want {
-        return Forked {
-            number: 1,
-            half0: [0u8; 16],
-            half1: [0u8; 16],
-        };
+        return fork_refused();
     }
     if cipher == 1 {
         return fork_by(Cipher::N64T192, key, tweak, block, want);
@@ -230,11 +236,7 @@ pub fn fork(cipher: u32, key: [u8; 16], tweak: [u8; 16], block: [u8; 16], want: 
     if cipher == 2 {
         return fork_by(Cipher::N128T256, key, tweak, block, want);
     }
-    Forked {
-        number: 1,
-        half0: [0u8; 16],
-        half1: [0u8; 16],
-    }
+    fork_refused()
 }
 
 // What a block call back answers: 0 and what was asked for, or 1 and zeros.
@@ -242,6 +244,16 @@ pub struct Unforked {
     pub number: u32,
     pub input: [u8; 16],
     pub other: [u8; 16],
+}
+
+fn unfork_refused() -> Unforked
+    ensures { λ r. ⌜ r ≡ unforkRefused ⌝ }
+{
+    Unforked {
+        number: 1,
+        input: [0u8; 16],
+        other: [0u8; 16],
+    }
 }
 
 fn unfork_by(
@@ -284,18 +296,10 @@ pub fn unfork(
     ensures { λ r. ⌜ r ≡ unforkOf cipher key tweak block from want ⌝ }
 {
     if 1 < from {
-        return Unforked {
-            number: 1,
-            input: [0u8; 16],
-            other: [0u8; 16],
-        };
+        return unfork_refused();
     }
     if 2 < want {
-        return Unforked {
-            number: 1,
-            input: [0u8; 16],
-            other: [0u8; 16],
-        };
+        return unfork_refused();
     }
     if cipher == 1 {
         return unfork_by(Cipher::N64T192, key, tweak, block, from, want);
@@ -303,9 +307,5 @@ pub fn unfork(
     if cipher == 2 {
         return unfork_by(Cipher::N128T256, key, tweak, block, from, want);
     }
-    Unforked {
-        number: 1,
-        input: [0u8; 16],
-        other: [0u8; 16],
-    }
+    unfork_refused()
 }

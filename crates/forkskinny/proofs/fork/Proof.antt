@@ -5,9 +5,12 @@ use borrow.Author.Needs.{needs}
 use Rattle.forkskinny.proofs.fork.Statement.{statement}
 use Rattle.forkskinny.proofs.fork.Tie as tie
 
+fork-refused-requires : tie.Need-fork-refused-requires
+fork-refused-requires c κs = search needs
+
 returns : tie.Need-returns
 unfolding forkOf
-returns c = simp (lt-ltb _ _ (c .if1 .taken))
+returns c = simp (lt-ltb _ _ (c .before .if1 .taken)) (c .fork-refused .ensures)
 
 fork-by-requires : tie.Need-fork-by-requires
 fork-by-requires c κs = search needs
@@ -23,10 +26,22 @@ returns-3 : tie.Need-returns-3
 unfolding forkOf
 returns-3 c = simp (le-ltb _ _ (c .before .before .before .if1 .left), ne-eqb _ _ (c .before .before .if2 .left), eq-eqb _ _ (c .before .if3 .taken)) (c .fork-by2 .ensures)
 
+fork-refused-requires-2 : tie.Need-fork-refused-requires-2
+fork-refused-requires-2 c κs = search needs
+
 returns-4 : tie.Need-returns-4
 unfolding forkOf
-returns-4 c = simp (le-ltb _ _ (c .before .before .if1 .left), ne-eqb _ _ (c .before .if2 .left), ne-eqb _ _ (c .if3 .left))
+returns-4 c = simp (le-ltb _ _ (c .before .before .before .if1 .left), ne-eqb _ _ (c .before .before .if2 .left), ne-eqb _ _ (c .before .if3 .left)) (c .fork-refused2 .ensures)
 
 pub fork-spec : {M : Type 1} → statement M
 fork-spec =
-    tie.close (tie.spec returns fork-by-requires returns-2 fork-by-requires-2 returns-3 returns-4)
+    tie.close
+    (tie.spec
+    fork-refused-requires
+    returns
+    fork-by-requires
+    returns-2
+    fork-by-requires-2
+    returns-3
+    fork-refused-requires-2
+    returns-4)
