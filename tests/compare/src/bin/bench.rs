@@ -14,8 +14,8 @@ use std::time::Instant;
 
 type Block = [u8; 16];
 
-const BATCHES: usize = 15;
-const CALLS_PER_BATCH: u32 = 400;
+const BATCHES: usize = 500;
+const CALLS_PER_BATCH: u32 = 100;
 
 #[derive(Clone, Copy, PartialEq)]
 enum Side {
