@@ -48,11 +48,10 @@ module _ (c : Cipher) (key tweak block : List ℕ) (want : ℕ) {first second : 
   unfolding input other
   unfork-parts from {far} {side} {o} em ef es eo back h₀ h₁ =
       let k = subst (λ (m : ℕ). Keys c m t keys) em known in
-      let here = fewer k _ (reach-branch c (sideOf from) far (λ q. ef ∙ far-first true from second o refl q)) in
-      let s =
-      back t (subst⁻¹ (λ (b : Branch). Keys c (startOf c b + branchOf c) t keys) es here) ∙ (λ i. unbranch c (es i) (et i) block) in
+      let from-keys = fewer k _ (reach-branch c (sideOf from) far (λ q. ef ∙ far-first true from second o refl q)) in
+      let side-keys = subst⁻¹ (λ (b : Branch). Keys c (startOf c b + branchOf c) t keys) es from-keys in
+      let s = back t side-keys ∙ (λ i. unbranch c (es i) (et i) block) in
       let a = h₀ t (fewer k _ (reach-init c far)) ∙ (λ i. given (e₀ i) (unforked c (et i) (s i))) in
-      let b =
-      h₁ t (λ yes. fewer k _ (reach-branch c (sideOf o) far (λ q. ef ∙ far-second true from second o yes q)))
-      ∙ (λ i. given (e₁ i) (branch c (sideOf (eo i)) (et i) (s i))) in
+      let other-half = h₁ t (λ yes. fewer k _ (reach-branch c (sideOf o) far (λ q. ef ∙ far-second true from second o yes q))) in
+      let b = other-half ∙ (λ i. given (e₁ i) (branch c (sideOf (eo i)) (et i) (s i))) in
       λ i. record { number = 0; input = a i; other = b i }

@@ -121,12 +121,12 @@ fn unrun_branch(
     requires { ⌜ Tabulates (unsub (widthOf c)) 256 (now untable) ⌝ }
     ensures { λ r. ⌜ ((t : Tweakey) → RoundKeys (widthOf c) (wordsOf c) (startOf c b + branchOf c) t (now (keys .entry)) → r ≡ unbranch c b t h) ⌝ }
 {
-    let from = start_of(c, b);
+    let at = start_of(c, b);
     let n = ciphers::branch_of(c);
     enter_branch(
         c,
         b,
-        runs::unrun(untable, keys, from, n, ciphers::load_state(c, h)),
+        runs::unrun(untable, keys, at, n, ciphers::load_state(c, h)),
     )
 }
 

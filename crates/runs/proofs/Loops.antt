@@ -19,8 +19,9 @@ module _ {w : Width} {n : Words} {t : Tweakey} {m : ℕ} {keys : List (List ℕ)
   pub fewer : (l : ℕ) → l ≤ m → RoundKeys w n l t keys
   fewer l h = record { first = known .first; at = λ i p. known .at i (omega arith) }
 
-  place : (from i : ℕ) → from + i < m → (advance w n i (advance w n from t)) .at ≡ from + i
-  place from i h = ap (λ (u : Tweakey). u .at) (advance-add w n from i t) ∙ advance-at w n (from + i) t ∙ (let z : t .at ≡ 0 = known .first in omega arith)
+  place : (from i : ℕ) → (advance w n i (advance w n from t)) .at ≡ from + i
+  place from i =
+      ap (λ (u : Tweakey). u .at) (advance-add w n from i t) ∙ advance-at w n (from + i) t ∙ (let z : t .at ≡ 0 = known .first in omega arith)
 
   key : (from i : ℕ) → from + i < m → getD keys (from + i) [] ≡ roundKey n ((advance w n i (advance w n from t)) .cells)
   key from i h = known .at (from + i) h ∙ ap (λ (u : Tweakey). roundKey n (u .cells)) (sym (advance-add w n from i t))
@@ -28,7 +29,7 @@ module _ {w : Width} {n : Words} {t : Tweakey} {m : ℕ} {keys : List (List ℕ)
   -- a round, or a round back, with the constant and the key at place from + i is that of the tweakey there
   pub round-here : (step : ℕ → List ℕ → State) (from i k : ℕ) → from + i < m → k ≡ constant (from + i)
       → step k (getD keys (from + i) []) ≡ step (constant ((advance w n i (advance w n from t)) .at)) (roundKey n ((advance w n i (advance w n from t)) .cells))
-  round-here step from i k h e = ap₂ step (e ∙ ap constant (sym (place from i h))) (key from i h)
+  round-here step from i k h e = ap₂ step (e ∙ ap constant (sym (place from i))) (key from i h)
 
 -- x with i rounds still to be undone is s with count of them
 pub record Left (table : List ℕ) (keys : List (List ℕ)) (from count : ℕ) (s : State) (i : ℕ) (x : State) : Type 0 where

@@ -11,7 +11,7 @@ pub struct Tweakey {
     pub at: usize,
 }
 
-// Each of 2 words permuted.
+// Both words permuted.
 fn permuted_2(t: [u8; 48]) -> [u8; 48]
     ensures { λ r. ⌜ r ≡ permutedWords Two t ⌝ }
 {
@@ -67,7 +67,7 @@ fn permuted_2(t: [u8; 48]) -> [u8; 48]
     ]
 }
 
-// Each of 3 words permuted.
+// All three words permuted.
 fn permuted_3(t: [u8; 48]) -> [u8; 48]
     ensures { λ r. ⌜ r ≡ permutedWords Three t ⌝ }
 {
@@ -123,7 +123,7 @@ fn permuted_3(t: [u8; 48]) -> [u8; 48]
     ]
 }
 
-// The cells of 64_192 for the next round: every word permuted, then the top two rows of the later words stepped.
+// The cells of 64-192 for the next round: every word permuted, then the top two rows of the later words stepped.
 fn next_cells_64_192(t: [u8; 48]) -> [u8; 48]
     ensures { λ r. ⌜ r ≡ nextCells Nibble Three t ⌝ }
 {
@@ -137,7 +137,7 @@ fn next_cells_64_192(t: [u8; 48]) -> [u8; 48]
     n
 }
 
-// The tweakey of 64_192 for the next round.
+// The tweakey of 64-192 for the next round.
 fn next_64_192(t: Tweakey) -> Tweakey
     requires { ⌜ t .at < 87 ⌝ }
     ensures { λ r. ⌜ r ≡ next Nibble Three t ⌝ }
@@ -150,7 +150,7 @@ fn next_64_192(t: Tweakey) -> Tweakey
     }
 }
 
-// The keys of the first m rounds of 64_192. (Stored cell by cell in this very loop: so the compiler works eight cells at once.)
+// The keys of the first m rounds of 64-192. (Stored cell by cell in this very loop: so the compiler works eight cells at once.)
 pub fn round_keys_64_192(m: usize, t: Tweakey) -> [[u8; 8]; 87]
     requires { ⌜ (m ≤ 87) × (t .at ≡ 0) ⌝ }
     ensures { λ r. ⌜ RoundKeys Nibble Three m t r ⌝ }
@@ -168,7 +168,7 @@ pub fn round_keys_64_192(m: usize, t: Tweakey) -> [[u8; 8]; 87]
     keys
 }
 
-// The cells of 128_256 for the next round: every word permuted, then the top two rows of the later words stepped.
+// The cells of 128-256 for the next round: every word permuted, then the top two rows of the later words stepped.
 fn next_cells_128_256(t: [u8; 48]) -> [u8; 48]
     ensures { λ r. ⌜ r ≡ nextCells Byte Two t ⌝ }
 {
@@ -179,7 +179,7 @@ fn next_cells_128_256(t: [u8; 48]) -> [u8; 48]
     n
 }
 
-// The tweakey of 128_256 for the next round.
+// The tweakey of 128-256 for the next round.
 fn next_128_256(t: Tweakey) -> Tweakey
     requires { ⌜ t .at < 87 ⌝ }
     ensures { λ r. ⌜ r ≡ next Byte Two t ⌝ }
@@ -192,7 +192,7 @@ fn next_128_256(t: Tweakey) -> Tweakey
     }
 }
 
-// The keys of the first m rounds of 128_256. (Stored cell by cell in this very loop: so the compiler works eight cells at once.)
+// The keys of the first m rounds of 128-256. (Stored cell by cell in this very loop: so the compiler works eight cells at once.)
 pub fn round_keys_128_256(m: usize, t: Tweakey) -> [[u8; 8]; 87]
     requires { ⌜ (m ≤ 87) × (t .at ≡ 0) ⌝ }
     ensures { λ r. ⌜ RoundKeys Byte Two m t r ⌝ }
