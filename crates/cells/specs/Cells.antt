@@ -21,6 +21,10 @@ abbrev pub size : Width → ℕ
 size Nibble = 16
 size Byte = 256
 
+-- every element of a list is a byte; past the end an element counts as 0
+pub record Bytes (b : List ℕ) : Type 0 where
+  pub at : (k : ℕ) → getD b k 0 < 256
+
 -- ---- bits
 
 -- bit k of x

@@ -4,11 +4,13 @@ use mathlib.Core.Path.{_≡_, refl, sym, ap, _∙_}
 use mathlib.Core.List.{List, [], _∷_, _++_}
 use Prim.Native.Nat.{ℕ, zero, suc, _+_, _*_, _/_, _%_, _<_, _≤_}
 use native.Mathlib.Omega.{arith}
-use lib.Dec.{lit≤}
+use mathlib.Core.Bool.{true}
+use borrow.Author.Tests.{ltb-true}
+use lib.Dec.{lit≤, ltb}
 use lib.ListN.{length, getD, take, replicate}
 use lib.Bits.{bitXor}
 use lib.Seq.{ext-getD, getD-take, length-take-le, take-all}
-use Rattle.cells.specs.Cells.{Width, Nibble, Byte, size}
+use Rattle.cells.specs.Cells.{Width, Nibble, Byte, size, Bytes}
 use Rattle.cells.proofs.Below.{tab, table}
 use Rattle.cells.proofs.Laws.{LowCells, step2-law, small-low, xor-low}
 use Rattle.cells.proofs.Xor.{xor-last}
@@ -17,7 +19,7 @@ use Rattle.rounds.specs.State.{State, cell}
 use Rattle.rounds.proofs.Undo.{Cells, low-grid}
 use Rattle.ciphers.specs.declared.Cipher.{Cipher}
 use Rattle.ciphers.specs.declared.Cipher.the-variants.{N64T192, N128T256}
-use Rattle.ciphers.specs.Ciphers.{widthOf, initOf, branchOf, nibbleFrom, cellOf, load, unload, counted, sixteen, tk, stepsFrom1, branchConstant, addBranch}
+use Rattle.ciphers.specs.Ciphers.{widthOf, initOf, branchOf, blockOf, nibbleFrom, cellOf, load, unload, counted, sixteen, tk, stepsFrom1, branchConstant, addBranch}
 
 -- the constants are enough
 pub fit : (c : Cipher) → initOf c + (branchOf c + branchOf c) ≤ 87
@@ -25,9 +27,6 @@ fit N64T192 = lit≤ tt
 fit N128T256 = lit≤ tt
 
 -- ---- bytes as cells
-
-pub record Bytes (b : List ℕ) : Type 0 where
-  pub at : (k : ℕ) → getD b k 0 < 256
 
 nibble-low : (b : List ℕ) (o k : ℕ) → Bytes b → nibbleFrom b o k < 16
 nibble-low b o zero h = omega (arith, h .at o)
@@ -96,6 +95,21 @@ pub unload-load : (w : Width) (b : List ℕ) → length b ≡ 16 → Bytes b →
 unfolding load unload
 unload-load Nibble b e h = simp (split-join, h .at) (ap (λ (l : List ℕ). l ++ replicate 8 0) (spelled b 8 (omega arith)))
 unload-load Byte b e h = spelled b 16 (omega arith) ∙ take-all 16 b (omega arith)
+
+-- ---- only the bytes of a block are read, of a block and of a tweak
+
+front : (n : ℕ) (l : List ℕ) (k : ℕ) → ltb k n ≡ true → getD (take n l) k 0 ≡ getD l k 0
+front n l k h = getD-take n l k 0 (ltb-true k n h)
+
+pub load-front : (c : Cipher) (b : List ℕ) → load (widthOf c) (take (blockOf c) b) ≡ load (widthOf c) b
+unfolding load
+load-front N64T192 b = simp (front 8 b)
+load-front N128T256 b = simp (front 16 b)
+
+pub tk-front : (c : Cipher) (key tweak : List ℕ) → tk c key (take (blockOf c) tweak) ≡ tk c key tweak
+unfolding tk
+tk-front N64T192 key tweak = simp (front 8 tweak)
+tk-front N128T256 key tweak = simp (front 16 tweak)
 
 -- ---- the branch constant undone
 

@@ -30,6 +30,11 @@ abbrev pub branchOf : Cipher → ℕ
 branchOf N64T192 = 23
 branchOf N128T256 = 27
 
+-- bytes of a block, and of a tweak (01, the schemes)
+abbrev pub blockOf : Cipher → ℕ
+blockOf N64T192 = 8
+blockOf N128T256 = 16
+
 -- ---- cells and bytes
 
 -- nibble k of bytes, the high one of a byte first, from byte o on

@@ -3,13 +3,23 @@ ghost use mathlib.Core.Path.{_≡_};
 ghost use Prim.Native.Nat.{_≤_};
 ghost use Rattle.cells.specs.Cells.{Nibble, Byte, Tabulates, sub, unsub};
 ghost use Rattle.schedule.specs.Schedule.{RoundKeys};
-ghost use Rattle.ciphers.specs.Ciphers.{widthOf, wordsOf, initOf, branchOf, loaded, load, unloaded, unload, keyCells, tk, xored, branchConstant, addBranch};
+ghost use Rattle.ciphers.specs.Ciphers.{widthOf, wordsOf, initOf, branchOf, blockOf, loaded, load, unloaded, unload, keyCells, tk, xored, branchConstant, addBranch};
 use schedule::Tweakey;
 
 // By the bits of the block and of the tweakey, as the paper names its ciphers: 64-192 and 128-256.
 pub enum Cipher {
     N64T192,
     N128T256,
+}
+
+// Bytes of a block, and of a tweak.
+pub fn block_of(c: Cipher) -> usize
+    ensures { λ r. ⌜ r ≡ blockOf c ⌝ }
+{
+    match c {
+        Cipher::N64T192 => 8,
+        Cipher::N128T256 => 16,
+    }
 }
 
 // Rounds before the fork.

@@ -9,7 +9,7 @@ use borrow.Author.Tests.{lt-ltb, le-ltb, ne-eqb}
 use Rattle.ciphers.specs.declared.Cipher.{Cipher}
 use Rattle.ciphers.specs.declared.Cipher.the-variants.{N64T192, N128T256}
 use Rattle.ciphers.specs.Ciphers.{widthOf, counted}
-use Rattle.ciphers.proofs.Laws.{Bytes}
+use Rattle.cells.specs.Cells.{Bytes}
 use Rattle.forkskinny.specs.declared.Forked.{Forked}
 use Rattle.forkskinny.specs.declared.Unforked.{Unforked}
 use Rattle.forkskinny.specs.ForkSkinny.{half, input, other, otherOf}

@@ -3,12 +3,14 @@
 use mathlib.Core.Path.{_≡_, sym, ap, _∙_}
 use mathlib.Core.List.{List}
 use Prim.Native.Nat.{ℕ}
+use lib.ListN.{take}
+use Rattle.cells.specs.Cells.{Bytes}
 use Rattle.cells.proofs.Laws.{LowCells}
 use Rattle.schedule.specs.declared.Tweakey.{Tweakey}
 use Rattle.ciphers.specs.declared.Cipher.{Cipher}
-use Rattle.ciphers.specs.Ciphers.{widthOf, counted, tk}
-use Rattle.ciphers.proofs.Laws.{Bytes, tk-low}
-use Rattle.forkskinny.specs.ForkSkinny.{sideOf, forked, branch, unforked, half, input, otherOf, other}
+use Rattle.ciphers.specs.Ciphers.{widthOf, blockOf, counted, tk}
+use Rattle.ciphers.proofs.Laws.{tk-low, tk-front, load-front}
+use Rattle.forkskinny.specs.ForkSkinny.{sideOf, forked, branch, unbranch, unforked, half, input, otherOf, other}
 use Rattle.forkskinny.proofs.Ways.{forked-counted, forked-cells, unforked-block, unforked-forked, forked-unforked, branch-block, unbranch-cells, unbranch-branch, branch-unbranch}
 pub use Rattle.forkskinny.proofs.Ways.{Block}
 
@@ -69,3 +71,21 @@ module _ (c : Cipher) (key tweak : List ℕ) (hk : Bytes key) (ht : Bytes tweak)
   unfolding half
   half-counts h x y p q e =
       ap (branch c (sideOf h) t) (sym (forked-counted c t x p) ∙ ap (forked c t) e ∙ forked-counted c t y q)
+
+-- ---- of a tweak and a block only the cipher's bytes are read, whatever stands behind them
+
+module _ (c : Cipher) (key tweak : List ℕ) (h : ℕ) (x : List ℕ) where
+  abbrev n : ℕ
+  n = blockOf c
+
+  pub half-front : half c key (take n tweak) h (take n x) ≡ half c key tweak h x
+  unfolding half forked
+  half-front = rw (tk-front c key tweak, load-front c x)
+
+  pub input-front : input c key (take n tweak) h (take n x) ≡ input c key tweak h x
+  unfolding input unbranch
+  input-front = rw (tk-front c key tweak, load-front c x)
+
+  pub other-front : other c key (take n tweak) h (take n x) ≡ other c key tweak h x
+  unfolding other unbranch
+  other-front = rw (tk-front c key tweak, load-front c x)

@@ -5,7 +5,7 @@ use mathlib.Core.List.{List}
 use Prim.Native.Nat.{ℕ, _*_, _/_, _%_}
 use native.Mathlib.Omega.{arith}
 use lib.ListN.{length}
-use Rattle.cells.specs.Cells.{Width, Nibble, Byte, Words}
+use Rattle.cells.specs.Cells.{Width, Nibble, Byte, Words, Bytes}
 use Rattle.cells.proofs.Below.{tab}
 use Rattle.cells.proofs.Laws.{LowCells}
 use Rattle.schedule.specs.declared.Tweakey.{Tweakey}
@@ -17,7 +17,7 @@ use Rattle.runs.specs.Runs.{rounds, unrounds}
 use Rattle.runs.proofs.Undo.{rounds-cells, unrounds-cells, unrounds-rounds, rounds-unrounds}
 use Rattle.ciphers.specs.declared.Cipher.{Cipher}
 use Rattle.ciphers.specs.Ciphers.{widthOf, wordsOf, initOf, branchOf, load, unload, counted, pair}
-use Rattle.ciphers.proofs.Laws.{append-low, Bytes, load-cells, load-unload, unload-load, branch-branch, branch-cells}
+use Rattle.ciphers.proofs.Laws.{append-low, load-cells, load-unload, unload-load, branch-branch, branch-cells}
 use Rattle.forkskinny.specs.declared.Branch.{Branch}
 use Rattle.forkskinny.specs.declared.Branch.the-variants.{Near, Far}
 use Rattle.forkskinny.specs.ForkSkinny.{startOf, enter, forked, branch, unbranch, unforked}

@@ -204,7 +204,8 @@ fn fork_refused() -> Forked
     }
 }
 
-fn fork_by(c: Cipher, key: [u8; 16], tweak: [u8; 16], block: [u8; 16], want: u32) -> Forked
+// The same under a cipher, for the modes.
+pub fn fork_by(c: Cipher, key: [u8; 16], tweak: [u8; 16], block: [u8; 16], want: u32) -> Forked
     ensures { λ r. ⌜ r ≡ forkBy c key tweak block want ⌝ }
 {
     let first = is_wanted(0, want);
@@ -256,7 +257,8 @@ fn unfork_refused() -> Unforked
     }
 }
 
-fn unfork_by(
+// The same under a cipher, for the modes; from is 0 or 1.
+pub fn unfork_by(
     c: Cipher,
     key: [u8; 16],
     tweak: [u8; 16],

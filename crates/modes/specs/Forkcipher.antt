@@ -1,0 +1,25 @@
+-- A forkcipher under one key (001, 3.1), and the laws that a mode asks of it. Assumes nothing.
+use mathlib.Core.Path.{_≡_}
+use Prim.Native.Nat.{ℕ}
+use mathlib.Core.List.{List}
+use Rattle.modes.specs.Blocks.{Block}
+
+-- half h of a block under a tweak; from half h the input block, and the other half
+pub record Fork : Type 0 where
+  pub half : ℕ → List ℕ → List ℕ → List ℕ
+  pub input : ℕ → List ℕ → List ℕ → List ℕ
+  pub other : ℕ → List ℕ → List ℕ → List ℕ
+
+-- f and g take blocks of n bytes to such blocks, and each undoes the other
+pub record Undo (n : ℕ) (f g : List ℕ → List ℕ) : Type 0 where
+  pub to : (x : List ℕ) → Block n x → Block n (f x)
+  pub fro : (x : List ℕ) → Block n x → Block n (g x)
+  pub there : (x : List ℕ) → Block n x → g (f x) ≡ x
+  pub again : (x : List ℕ) → Block n x → f (g x) ≡ x
+
+-- over blocks and tweaks of n bytes: half 0 and its input undo each other, half 1 is a block, and the other half from half 0 is
+-- half 1 of the input
+pub record ForkLaws (n : ℕ) (F : Fork) : Type 0 where
+  pub undo : (tweak : List ℕ) → Block n tweak → Undo n (F .half 0 tweak) (F .input 0 tweak)
+  pub second : (tweak x : List ℕ) → Block n tweak → Block n x → Block n (F .half 1 tweak x)
+  pub other-is : (tweak x : List ℕ) → Block n tweak → Block n x → F .other 0 tweak x ≡ F .half 1 tweak (F .input 0 tweak x)

@@ -1,0 +1,65 @@
+-- PAEF over a forkcipher under one key (001, figure 5; "enc" and "dec" cite the lines of its two functions, those marked with a
+-- diamond and those without a mark). Assumes nothing.
+use Prim.Native.Nat.{ℕ, _+_, _*_, _/_, _%_}
+use mathlib.Core.Bool.{Bool, true, false}
+use mathlib.Core.List.{List, [], _∷_, _++_}
+use lib.ListN.{replicate}
+use Rattle.modes.specs.Blocks.{_⊕_}
+use Rattle.modes.specs.Forkcipher.{Fork}
+use Rattle.modes.specs.Mode.{Mode}
+
+-- S, and the number i of the next block
+pub record Sum : Type 0 where
+  pub sum : List ℕ
+  pub number : ℕ
+
+-- two bytes, the high one first
+unfoldable pub be16 : ℕ → List ℕ
+be16 v = v / 256 % 256 ∷ v % 256 ∷ []
+
+-- N, three bits of flag, thirteen of number (enc 6, 11, 15, 20, 28, 31)
+unfoldable pub paefTweak : List ℕ → ℕ → ℕ → List ℕ
+paefTweak nonce flag number = nonce ++ be16 (flag * 8192 + number)
+
+-- the flag of the last header block: 001 full, 011 padded (enc 11 and 15)
+unfoldable pub paefHead : Bool → ℕ
+paefHead true = 1
+paefHead false = 3
+
+-- and of the last body block: 101 full, 111 padded (enc 28 and 31)
+unfoldable pub paefBody : Bool → ℕ
+paefBody true = 5
+paefBody false = 7
+
+module _ (n : ℕ) (F : Fork) (nonce : List ℕ) where
+  -- T, for a block with a flag
+  unfoldable pub sumTweak : ℕ → Sum → List ℕ
+  sumTweak flag s = paefTweak nonce flag (s .number)
+
+  -- S ⊕ F^{T,0}(A) (enc 8, 13, 17)
+  unfoldable pub headSum : ℕ → Sum → List ℕ → List ℕ
+  headSum flag s x = s .sum ⊕ F .half 0 (sumTweak flag s) x
+
+  unfoldable pub paef : Mode Sum
+  paef = record {
+    -- enc 4 to 17: the numbers begin at 1 in the header, and again in the body
+    start = record { sum = replicate n 0; number = 1 };
+    head = λ s x. record { sum = headSum 0 s x; number = s .number + 1 };
+    headLast = λ noM full s x. record { sum = headSum (paefHead full) s x; number = 1 };
+    -- enc 20 to 22, flag 100
+    out = λ s x. F .half 0 (sumTweak 4 s) x;
+    next = λ s x. record { sum = s .sum ⊕ F .half 1 (sumTweak 4 s) x; number = s .number + 1 };
+    -- enc 36 and 37
+    fin = λ full s x. F .half 0 (sumTweak (paefBody full) s) x ⊕ s .sum;
+    tag = λ full s x. F .half 1 (sumTweak (paefBody full) s) x;
+    -- enc 34
+    alone = λ s. s .sum;
+    -- dec 20 to 22
+    back = λ s c. F .input 0 (sumTweak 4 s) c;
+    backNext = λ s c. record { sum = s .sum ⊕ F .other 0 (sumTweak 4 s) c; number = s .number + 1 };
+    -- dec 37 and 38, with S added once
+    unfin = λ full s c. F .input 0 (sumTweak (paefBody full) s) (c ⊕ s .sum);
+    untag = λ full s c. F .other 0 (sumTweak (paefBody full) s) (c ⊕ s .sum);
+    -- enc 38
+    blockFirst = true;
+  }
