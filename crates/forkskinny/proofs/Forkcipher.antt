@@ -3,7 +3,7 @@
 use mathlib.Core.Path.{_≡_, sym, ap, _∙_}
 use mathlib.Core.List.{List}
 use Prim.Native.Nat.{ℕ}
-use lib.ListN.{take}
+use lib.ListN.{length, take}
 use Rattle.cells.specs.Cells.{Bytes}
 use Rattle.cells.proofs.Laws.{LowCells}
 use Rattle.schedule.specs.declared.Tweakey.{Tweakey}
@@ -11,7 +11,7 @@ use Rattle.ciphers.specs.declared.Cipher.{Cipher}
 use Rattle.ciphers.specs.Ciphers.{widthOf, blockOf, counted, tk}
 use Rattle.ciphers.proofs.Laws.{tk-low, tk-front, load-front}
 use Rattle.forkskinny.specs.ForkSkinny.{sideOf, forked, branch, unbranch, unforked, half, input, otherOf, other}
-use Rattle.forkskinny.proofs.Ways.{forked-counted, forked-cells, unforked-block, unforked-forked, forked-unforked, branch-block, unbranch-cells, unbranch-branch, branch-unbranch}
+use Rattle.forkskinny.proofs.Ways.{unload-long, forked-counted, forked-cells, unforked-block, unforked-forked, forked-unforked, branch-block, unbranch-cells, unbranch-branch, branch-unbranch}
 pub use Rattle.forkskinny.proofs.Ways.{Block}
 
 -- for every key and tweak of bytes, every half h and every block
@@ -71,6 +71,21 @@ module _ (c : Cipher) (key tweak : List ℕ) (hk : Bytes key) (ht : Bytes tweak)
   unfolding half
   half-counts h x y p q e =
       ap (branch c (sideOf h) t) (sym (forked-counted c t x p) ∙ ap (forked c t) e ∙ forked-counted c t y q)
+
+-- ---- what comes out is sixteen bytes long, whatever went in
+
+module _ (c : Cipher) (key tweak : List ℕ) (h : ℕ) (x : List ℕ) where
+  pub half-long : length (half c key tweak h x) ≡ 16
+  unfolding half branch
+  half-long = unload-long (widthOf c) _
+
+  pub input-long : length (input c key tweak h x) ≡ 16
+  unfolding input unforked
+  input-long = unload-long (widthOf c) _
+
+  pub other-long : length (other c key tweak h x) ≡ 16
+  unfolding other branch
+  other-long = unload-long (widthOf c) _
 
 -- ---- of a tweak and a block only the cipher's bytes are read, whatever stands behind them
 

@@ -39,10 +39,13 @@ unload-bytes Nibble s h = record {
 }
 unload-bytes Byte s h = record { at = tab-low Byte (λ k. cell s (k / 4) (k % 4)) (λ k. h .low (k / 4) (k % 4)) 16 0 }
 
-unload-block : (w : Width) (s : State) → Cells w s → Block (unload w s)
+pub unload-long : (w : Width) (s : State) → length (unload w s) ≡ 16
 unfolding unload
-unload-block Nibble s h = record { long = refl; bytes = unload-bytes Nibble s h }
-unload-block Byte s h = record { long = refl; bytes = unload-bytes Byte s h }
+unload-long Nibble s = refl
+unload-long Byte s = refl
+
+unload-block : (w : Width) (s : State) → Cells w s → Block (unload w s)
+unload-block w s h = record { long = unload-long w s; bytes = unload-bytes w s h }
 
 -- ---- the branch constant, on the branch that has it
 
