@@ -46,7 +46,6 @@ unfoldable pub _⊕_ : List ℕ → List ℕ → List ℕ
 (x ∷ xs) ⊕ (y ∷ ys) = bitXor x y ∷ xs ⊕ ys
 
 infixl 70 _⊕_
-
 -- are two strings the same
 unfoldable pub same : List ℕ → List ℕ → Bool
 same [] [] = true

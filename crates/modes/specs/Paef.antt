@@ -36,9 +36,19 @@ module _ (n : ℕ) (F : Fork) (nonce : List ℕ) where
   unfoldable pub sumTweak : ℕ → Sum → List ℕ
   sumTweak flag s = paefTweak nonce flag (s .number)
 
+  -- half h of a block, F^{T,h}(X); and back from half 0: F^{-1,T,0}(C)
+  unfoldable pub sumHalf : ℕ → ℕ → Sum → List ℕ → List ℕ
+  sumHalf h flag s x = F .half h (sumTweak flag s) x
+
+  unfoldable pub sumInput : ℕ → Sum → List ℕ → List ℕ
+  sumInput flag s c = F .input 0 (sumTweak flag s) c
+
+  unfoldable pub sumOther : ℕ → Sum → List ℕ → List ℕ
+  sumOther flag s c = F .other 0 (sumTweak flag s) c
+
   -- S ⊕ F^{T,0}(A) (enc 8, 13, 17)
   unfoldable pub headSum : ℕ → Sum → List ℕ → List ℕ
-  headSum flag s x = s .sum ⊕ F .half 0 (sumTweak flag s) x
+  headSum flag s x = s .sum ⊕ sumHalf 0 flag s x
 
   unfoldable pub paef : Mode Sum
   paef = record {
@@ -47,19 +57,19 @@ module _ (n : ℕ) (F : Fork) (nonce : List ℕ) where
     head = λ s x. record { sum = headSum 0 s x; number = s .number + 1 };
     headLast = λ noM full s x. record { sum = headSum (paefHead full) s x; number = 1 };
     -- enc 20 to 22, flag 100
-    out = λ s x. F .half 0 (sumTweak 4 s) x;
-    next = λ s x. record { sum = s .sum ⊕ F .half 1 (sumTweak 4 s) x; number = s .number + 1 };
+    out = λ s x. sumHalf 0 4 s x;
+    next = λ s x. record { sum = s .sum ⊕ sumHalf 1 4 s x; number = s .number + 1 };
     -- enc 36 and 37
-    fin = λ full s x. F .half 0 (sumTweak (paefBody full) s) x ⊕ s .sum;
-    tag = λ full s x. F .half 1 (sumTweak (paefBody full) s) x;
+    fin = λ full s x. sumHalf 0 (paefBody full) s x ⊕ s .sum;
+    tag = λ full s x. sumHalf 1 (paefBody full) s x;
     -- enc 34
     alone = λ s. s .sum;
     -- dec 20 to 22
-    back = λ s c. F .input 0 (sumTweak 4 s) c;
-    backNext = λ s c. record { sum = s .sum ⊕ F .other 0 (sumTweak 4 s) c; number = s .number + 1 };
+    back = λ s c. sumInput 4 s c;
+    backNext = λ s c. record { sum = s .sum ⊕ sumOther 4 s c; number = s .number + 1 };
     -- dec 37 and 38, with S added once
-    unfin = λ full s c. F .input 0 (sumTweak (paefBody full) s) (c ⊕ s .sum);
-    untag = λ full s c. F .other 0 (sumTweak (paefBody full) s) (c ⊕ s .sum);
+    unfin = λ full s c. sumInput (paefBody full) s (c ⊕ s .sum);
+    untag = λ full s c. sumOther (paefBody full) s (c ⊕ s .sum);
     -- enc 38
     blockFirst = true;
   }

@@ -1,0 +1,4 @@
+pub mod Over
+pub mod Parts
+pub mod Wrote
+mod Loaded

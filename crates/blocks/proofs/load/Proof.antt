@@ -1,0 +1,27 @@
+-- `blocks::load` meets its contract: a short part by `load-short`, any other by `load-whole`.
+-- Assumes nothing.
+use borrow.Author.Needs.{needs}
+use mathlib.Core.Path.{_≡_, ap, _∙_}
+use native.Mathlib.Omega.{arith}
+use lib.ListN.{set}
+use Rattle.blocks.proofs.Loaded.{load-whole, load-short}
+use Rattle.blocks.proofs.load.Statement.{statement}
+use Rattle.blocks.proofs.load.Tie as tie
+
+front-requires : tie.Need-front-requires
+front-requires c κs = search needs
+
+array-write-b : tie.Need-array-write-b
+array-write-b c = search needs
+
+returns : tie.Need-returns
+returns c = rw (c .front .ensures) (load-short _ _ (omega arith) (omega arith))
+
+front-requires-2 : tie.Need-front-requires-2
+front-requires-2 c κs = search needs
+
+returns-2 : tie.Need-returns-2
+returns-2 c = rw (c .front2 .ensures) (load-whole _ _ _ (omega arith))
+
+pub load-spec : {M : Type 1} → statement M
+load-spec = tie.close (tie.spec front-requires array-write-b returns front-requires-2 returns-2)

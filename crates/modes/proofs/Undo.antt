@@ -1,0 +1,25 @@
+-- Functions of blocks that are undone, and how they are put together: adding a block, and one after another. Assumes nothing.
+use mathlib.Core.Path.{sym, ap, _∙_}
+use Prim.Native.Nat.{ℕ}
+use mathlib.Core.List.{List}
+use Rattle.modes.specs.Blocks.{Block, _⊕_}
+use Rattle.modes.specs.Forkcipher.{Undo}
+use Rattle.modes.proofs.Bytes.{xor-block, xor-undo}
+
+pub undo-xor : {n : ℕ} {d : List ℕ} → Block n d → Undo n (λ x. x ⊕ d) (λ x. x ⊕ d)
+undo-xor {n} {d} h =
+    record {
+      to = λ x b. xor-block n x d b h;
+      fro = λ x b. xor-block n x d b h;
+      there = λ x b. xor-undo x d (b .long ∙ sym (h .long));
+      again = λ x b. xor-undo x d (b .long ∙ sym (h .long));
+    }
+
+pub undo-then : {n : ℕ} {f f′ g g′ : List ℕ → List ℕ} → Undo n f f′ → Undo n g g′ → Undo n (λ x. g (f x)) (λ x. f′ (g′ x))
+undo-then {f = f} {f′} {g} {g′} p q =
+    record {
+      to = λ x b. q .to (f x) (p .to x b);
+      fro = λ x b. p .fro (g′ x) (q .fro x b);
+      there = λ x b. ap f′ (q .there (f x) (p .to x b)) ∙ p .there x b;
+      again = λ x b. ap g (p .again (g′ x) (q .fro x b)) ∙ q .again x b;
+    }

@@ -1,0 +1,30 @@
+-- Where a mode begins, and what it gives for an empty body. Assumes nothing.
+use mathlib.Core.Path.{_≡_, refl}
+use mathlib.Core.Bool.{true}
+use mathlib.Core.List.{List}
+use Prim.Native.Nat.{ℕ}
+use lib.ListN.{take, replicate}
+use Rattle.ciphers.specs.declared.Cipher.{Cipher}
+use Rattle.ciphers.specs.declared.Cipher.the-variants.{N64T192, N128T256}
+use Rattle.ciphers.specs.Ciphers.{blockOf}
+use Rattle.modes.specs.Mode.{Mode}
+use Rattle.modes.specs.Paef.{paef}
+use Rattle.modes.specs.Saef.{saef}
+use Rattle.steps.specs.declared.Kind.{Kind}
+use Rattle.steps.specs.declared.Kind.the-variants.{Paef, Saef}
+use Rattle.steps.specs.declared.State.{State}
+use Rattle.steps.specs.Modes.{modeOf, stateOf}
+
+pub start-is : (k : Kind) (c : Cipher) (key nonce : List ℕ)
+    → stateOf k (blockOf c) (record { mask = replicate 16 0; number = 1; first = true }) ≡ modeOf k c key nonce .start
+unfolding paef saef
+start-is Paef N64T192 key nonce = refl
+start-is Paef N128T256 key nonce = refl
+start-is Saef N64T192 key nonce = refl
+start-is Saef N128T256 key nonce = refl
+
+pub alone-is : (k : Kind) (c : Cipher) (key nonce : List ℕ) (s : State)
+    → take (blockOf c) (s .mask) ≡ modeOf k c key nonce .alone (stateOf k (blockOf c) s)
+unfolding paef saef
+alone-is Paef c key nonce s = refl
+alone-is Saef c key nonce s = refl

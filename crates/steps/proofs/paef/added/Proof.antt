@@ -1,0 +1,24 @@
+-- `steps::paef::added` meets its contract: xor by xor. Assumes nothing.
+use mathlib.Core.Path.{ap}
+use mathlib.Core.List.{List}
+use mathlib.Core.Bool.{false}
+use Prim.Native.Nat.{ℕ, _+_}
+use Rattle.steps.specs.Steps.{addedOf}
+use borrow.Author.Needs.{needs}
+use Rattle.steps.proofs.paef.added.Statement.{statement}
+use Rattle.steps.proofs.paef.added.Tie as tie
+
+xored-requires : tie.Need-xored-requires
+xored-requires c κs = search needs
+
+add-t7 : tie.Need-add-t7
+add-t7 c = search needs
+
+returns : tie.Need-returns
+unfolding addedOf
+returns c = 
+    let a = c .before .before .before .before .before .args in
+    ap (λ (l : List ℕ). record { out = a .p .first; next = record { mask = l; number = a .s .number + 1; first = false } }) (c .before .xored .ensures)
+
+pub added-spec : {M : Type 1} → statement M
+added-spec = tie.close (tie.spec xored-requires add-t7 returns)

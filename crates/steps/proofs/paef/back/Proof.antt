@@ -1,0 +1,21 @@
+-- `steps::paef::back` meets its contract: `back-paired` of what the callees made. Assumes nothing.
+use native.Mathlib.Omega.{arith}
+use Rattle.steps.proofs.PaefSteps.{back-paired}
+use Rattle.steps.proofs.Skinny.{block-most}
+use borrow.Author.Needs.{needs}
+use Rattle.steps.proofs.paef.back.Statement.{statement}
+use Rattle.steps.proofs.paef.back.Tie as tie
+
+tweak-requires : tie.Need-tweak-requires
+tweak-requires c κs = (omega (arith, c .before .pre .0, block-most (c .before .args .c)), c .before .pre .1, c .before .pre .2)
+
+unfork-by-requires : tie.Need-unfork-by-requires
+unfork-by-requires c κs = search needs
+
+returns : tie.Need-returns
+returns c = 
+    let a = c .before .before .before .before .before .args in
+    back-paired (a .c) (a .key) (a .nonce .now) (a .flag) (a .s) (a .x) _ (c .before .before .before .before .before .pre .0) (c .before .before .before .tweak .ensures) _ (c .before .before .unfork-by .ensures)
+
+pub back-spec : {M : Type 1} → statement M
+back-spec = tie.close (tie.spec tweak-requires unfork-by-requires returns)

@@ -1,0 +1,21 @@
+-- `steps::paef::both` meets its contract: `both-paired` of what the callees made. Assumes nothing.
+use native.Mathlib.Omega.{arith}
+use Rattle.steps.proofs.PaefSteps.{both-paired}
+use Rattle.steps.proofs.Skinny.{block-most}
+use borrow.Author.Needs.{needs}
+use Rattle.steps.proofs.paef.both.Statement.{statement}
+use Rattle.steps.proofs.paef.both.Tie as tie
+
+tweak-requires : tie.Need-tweak-requires
+tweak-requires c κs = (omega (arith, c .before .pre .0, block-most (c .before .args .c)), c .before .pre .1, c .before .pre .2)
+
+fork-by-requires : tie.Need-fork-by-requires
+fork-by-requires c κs = search needs
+
+returns : tie.Need-returns
+returns c = 
+    let a = c .before .before .before .before .before .args in
+    both-paired (a .c) (a .key) (a .nonce .now) (a .flag) (a .s) (a .x) _ (c .before .before .before .before .before .pre .0) (c .before .before .before .tweak .ensures) _ (c .before .before .fork-by .ensures)
+
+pub both-spec : {M : Type 1} → statement M
+both-spec = tie.close (tie.spec tweak-requires fork-by-requires returns)

@@ -1,0 +1,34 @@
+-- `steps::paef::head_last` meets its contract: S is what `head_sum` made with the flag of a last block. Assumes nothing.
+use mathlib.Core.Path.{ap, _∙_}
+use mathlib.Core.List.{List}
+use Prim.Native.Nat.{ℕ}
+use native.Mathlib.Omega.{arith}
+use Rattle.ciphers.specs.Ciphers.{blockOf}
+use lib.ListN.{take}
+use Rattle.modes.specs.Paef.{headSum, paef}
+use Rattle.steps.specs.declared.Kind.the-variants.{Paef}
+use Rattle.steps.specs.Skinny.{skinny}
+use Rattle.steps.specs.Modes.{stateOf}
+use borrow.Author.Needs.{needs}
+use Rattle.steps.proofs.paef.head_last.Statement.{statement}
+use Rattle.steps.proofs.paef.head_last.Tie as tie
+
+head-flag-requires : tie.Need-head-flag-requires
+head-flag-requires c κs = search needs
+
+head-sum-requires : tie.Need-head-sum-requires
+head-sum-requires c κs = search needs
+
+returns : tie.Need-returns
+unfolding paef
+returns c = 
+    let a = c .before .before .before .args in
+    let n = blockOf (a .c) in (
+      ap (λ (l : List ℕ). record { sum = l; number = 1 })
+          (c .head-sum .ensures
+          ∙ ap (λ (f : ℕ). headSum n (skinny (a .c) (a .key)) (a .nonce .now) f (stateOf Paef n (a .s)) (take n (a .x))) (c .before .head-flag .ensures .0)),
+      omega arith,
+    )
+
+pub head-last-spec : {M : Type 1} → statement M
+head-last-spec = tie.close (tie.spec head-flag-requires head-sum-requires returns)

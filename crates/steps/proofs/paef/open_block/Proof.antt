@@ -1,0 +1,19 @@
+-- `steps::paef::open_block` meets its contract: a pair by `back`, its second block added to S. Assumes nothing.
+use Rattle.modes.specs.Paef.{paef}
+use Rattle.steps.proofs.PaefSteps.{summed}
+use borrow.Author.Needs.{needs}
+use Rattle.steps.proofs.paef.open_block.Statement.{statement}
+use Rattle.steps.proofs.paef.open_block.Tie as tie
+
+back-requires : tie.Need-back-requires
+back-requires c κs = search needs
+
+added-requires : tie.Need-added-requires
+added-requires c κs = search needs
+
+returns : tie.Need-returns
+unfolding paef
+returns c = summed _ _ _ _ _ _ (c .before .back .ensures) _ (c .added .ensures)
+
+pub open-block-spec : {M : Type 1} → statement M
+open-block-spec = tie.close (tie.spec back-requires added-requires returns)

@@ -1,0 +1,22 @@
+-- `steps::paef::open_last` meets its contract: `unlast-paired` of what `back` made. Assumes nothing.
+use Rattle.steps.proofs.PaefSteps.{unlast-paired}
+use borrow.Author.Needs.{needs}
+use Rattle.steps.proofs.paef.open_last.Statement.{statement}
+use Rattle.steps.proofs.paef.open_last.Tie as tie
+
+xored-requires : tie.Need-xored-requires
+xored-requires c κs = search needs
+
+body-flag-requires : tie.Need-body-flag-requires
+body-flag-requires c κs = search needs
+
+back-requires : tie.Need-back-requires
+back-requires c κs = search needs
+
+returns : tie.Need-returns
+returns c = 
+    let a = c .before .before .before .before .before .args in
+    unlast-paired _ _ _ (a .full) _ (c .before .body-flag .ensures .0) (a .s) (a .x) _ (c .before .before .xored .ensures) _ (c .back .ensures)
+
+pub open-last-spec : {M : Type 1} → statement M
+open-last-spec = tie.close (tie.spec xored-requires body-flag-requires back-requires returns)

@@ -1,0 +1,23 @@
+-- `steps::paef::seal_last` meets its contract: `last-paired` of what `both` made. Assumes nothing.
+use native.Mathlib.Omega.{arith}
+use Rattle.steps.proofs.PaefSteps.{last-paired}
+use borrow.Author.Needs.{needs}
+use Rattle.steps.proofs.paef.seal_last.Statement.{statement}
+use Rattle.steps.proofs.paef.seal_last.Tie as tie
+
+body-flag-requires : tie.Need-body-flag-requires
+body-flag-requires c κs = search needs
+
+both-requires : tie.Need-both-requires
+both-requires c κs = search needs
+
+xored-requires : tie.Need-xored-requires
+xored-requires c κs = search needs
+
+returns : tie.Need-returns
+returns c = 
+    let a = c .before .before .before .before .before .before .before .args in
+    last-paired _ _ _ (a .full) _ (c .before .before .before .before .before .body-flag .ensures .0) (a .s) (a .x) _ (c .before .before .before .before .both .ensures) _ (c .xored .ensures) (omega (arith, c .xored .ok))
+
+pub seal-last-spec : {M : Type 1} → statement M
+seal-last-spec = tie.close (tie.spec body-flag-requires both-requires xored-requires returns)

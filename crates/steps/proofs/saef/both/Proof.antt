@@ -1,0 +1,24 @@
+-- `steps::saef::both` meets its contract: `both-paired` of what the callees made. Assumes nothing.
+use native.Mathlib.Omega.{arith}
+use Rattle.steps.proofs.SaefSteps.{both-paired}
+use Rattle.steps.proofs.Skinny.{block-most}
+use borrow.Author.Needs.{needs}
+use Rattle.steps.proofs.saef.both.Statement.{statement}
+use Rattle.steps.proofs.saef.both.Tie as tie
+
+tweak-requires : tie.Need-tweak-requires
+tweak-requires c κs = (omega (arith, c .before .pre .0, block-most (c .before .args .c)), c .before .pre .1)
+
+xored-requires : tie.Need-xored-requires
+xored-requires c κs = search needs
+
+fork-by-requires : tie.Need-fork-by-requires
+fork-by-requires c κs = search needs
+
+returns : tie.Need-returns
+returns c = 
+    let a = c .before .before .before .before .before .before .before .args in
+    both-paired (a .c) (a .key) (a .nonce .now) (a .flag) (a .s) (a .x) _ _ (c .before .before .before .before .before .before .before .pre .0) (c .before .before .before .before .before .tweak .ensures) (c .before .before .before .xored .ensures) _ (c .before .before .fork-by .ensures)
+
+pub both-spec : {M : Type 1} → statement M
+both-spec = tie.close (tie.spec tweak-requires xored-requires fork-by-requires returns)

@@ -1,0 +1,19 @@
+-- `steps::saef::open_block` meets its contract: a pair by `back`, its second block the next Δ. Assumes nothing.
+use Rattle.modes.specs.Saef.{saef}
+use Rattle.steps.proofs.SaefSteps.{moved-stepped}
+use borrow.Author.Needs.{needs}
+use Rattle.steps.proofs.saef.open_block.Statement.{statement}
+use Rattle.steps.proofs.saef.open_block.Tie as tie
+
+back-requires : tie.Need-back-requires
+back-requires c κs = search needs
+
+moved-requires : tie.Need-moved-requires
+moved-requires c κs = search needs
+
+returns : tie.Need-returns
+unfolding saef
+returns c = moved-stepped _ _ _ _ _ _ (c .before .back .ensures) _ (c .moved .ensures .0) (c .moved .ensures .1)
+
+pub open-block-spec : {M : Type 1} → statement M
+open-block-spec = tie.close (tie.spec back-requires moved-requires returns)

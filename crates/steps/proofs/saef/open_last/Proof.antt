@@ -1,0 +1,35 @@
+-- `steps::saef::open_last` meets its contract: a pair by `back`, Δ off its first block. Assumes nothing.
+use mathlib.Core.Path.{subst}
+use Prim.Native.Nat.{ℕ}
+use Rattle.ciphers.specs.Ciphers.{blockOf}
+use Rattle.modes.specs.Saef.{maskInput, maskOther, saef}
+use Rattle.steps.specs.declared.Kind.the-variants.{Saef}
+use Rattle.steps.specs.Skinny.{skinny}
+use Rattle.steps.specs.Steps.{Paired}
+use Rattle.steps.proofs.SaefSteps.{unmasked-paired}
+use borrow.Author.Needs.{needs}
+use Rattle.steps.proofs.saef.open_last.Statement.{statement}
+use Rattle.steps.proofs.saef.open_last.Tie as tie
+
+body-flag-requires : tie.Need-body-flag-requires
+body-flag-requires c κs = search needs
+
+back-requires : tie.Need-back-requires
+back-requires c κs = search needs
+
+unmasked-requires : tie.Need-unmasked-requires
+unmasked-requires c κs = search needs
+
+returns : tie.Need-returns
+unfolding saef
+returns c = 
+    let a = c .before .before .before .before .args in
+    let n = blockOf (a .c) in
+    let F = skinny (a .c) (a .key) in
+    let p = c .before .back .result in
+    unmasked-paired _ _ _ _ _ _
+    (subst (λ (f : ℕ). Paired Saef n (maskInput n F (a .nonce .now) f) (maskOther n F (a .nonce .now) f) (a .s) (a .x) (p .first) (p .second)) (c .before .before .body-flag .ensures .0) (c .before .back .ensures))
+    _ (c .unmasked .ensures .0) (c .unmasked .ensures .1)
+
+pub open-last-spec : {M : Type 1} → statement M
+open-last-spec = tie.close (tie.spec body-flag-requires back-requires unmasked-requires returns)

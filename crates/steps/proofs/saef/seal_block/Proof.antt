@@ -1,0 +1,19 @@
+-- `steps::saef::seal_block` meets its contract: a pair by `both`, its second block the next Δ. Assumes nothing.
+use Rattle.modes.specs.Saef.{saef}
+use Rattle.steps.proofs.SaefSteps.{moved-stepped}
+use borrow.Author.Needs.{needs}
+use Rattle.steps.proofs.saef.seal_block.Statement.{statement}
+use Rattle.steps.proofs.saef.seal_block.Tie as tie
+
+both-requires : tie.Need-both-requires
+both-requires c κs = search needs
+
+moved-requires : tie.Need-moved-requires
+moved-requires c κs = search needs
+
+returns : tie.Need-returns
+unfolding saef
+returns c = moved-stepped _ _ _ _ _ _ (c .before .both .ensures) _ (c .moved .ensures .0) (c .moved .ensures .1)
+
+pub seal-block-spec : {M : Type 1} → statement M
+seal-block-spec = tie.close (tie.spec both-requires moved-requires returns)

@@ -1,0 +1,21 @@
+-- `steps::saef::unmasked` meets its contract: xor by xor. Assumes nothing.
+use mathlib.Core.Path.{ap}
+use mathlib.Core.List.{List}
+use Prim.Native.Nat.{ℕ}
+use native.Mathlib.Omega.{arith}
+use Rattle.steps.specs.Steps.{unmaskedOf}
+use borrow.Author.Needs.{needs}
+use Rattle.steps.proofs.saef.unmasked.Statement.{statement}
+use Rattle.steps.proofs.saef.unmasked.Tie as tie
+
+xored-requires : tie.Need-xored-requires
+xored-requires c κs = search needs
+
+returns : tie.Need-returns
+unfolding unmaskedOf
+returns c = 
+    let a = c .before .before .before .before .args in
+    (ap (λ (l : List ℕ). record { first = l; second = a .p .second }) (c .xored .ensures), omega (arith, c .xored .ok))
+
+pub unmasked-spec : {M : Type 1} → statement M
+unmasked-spec = tie.close (tie.spec xored-requires returns)

@@ -1,0 +1,3 @@
+pub mod Skinny
+pub mod Modes
+pub mod Steps

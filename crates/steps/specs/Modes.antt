@@ -1,0 +1,33 @@
+-- The modes by name, over ForkSkinny. Assumes nothing.
+use Prim.Native.Nat.{ℕ}
+use mathlib.Core.List.{List}
+use lib.ListN.{take}
+use Rattle.ciphers.specs.declared.Cipher.{Cipher}
+use Rattle.ciphers.specs.Ciphers.{blockOf}
+use Rattle.modes.specs.Mode.{Mode}
+use Rattle.modes.specs.Paef.{Sum, paef}
+use Rattle.modes.specs.Saef.{Mask, saef}
+use Rattle.steps.specs.declared.Kind.{Kind}
+use Rattle.steps.specs.declared.Kind.the-variants.{Paef, Saef}
+use Rattle.steps.specs.declared.State.{State}
+use Rattle.steps.specs.Skinny.{skinny}
+
+-- what a mode carries from block to block
+abbrev pub Carried : Kind → Type 0
+Carried Paef = Sum
+Carried Saef = Mask
+
+-- a mode, under a cipher, a key and a nonce
+abbrev pub modeOf : (k : Kind) → Cipher → List ℕ → List ℕ → Mode (Carried k)
+modeOf Paef c key nonce = paef (blockOf c) (skinny c key) nonce
+modeOf Saef c key nonce = saef (blockOf c) (skinny c key) nonce
+
+-- bytes of a tweak behind the nonce
+abbrev pub tailOf : Kind → ℕ
+tailOf Paef = 2
+tailOf Saef = 1
+
+-- what the code's record carries of it: of sixteen bytes the first n count
+abbrev pub stateOf : (k : Kind) → ℕ → State → Carried k
+stateOf Paef n s = record { sum = take n (s .mask); number = s .number }
+stateOf Saef n s = record { delta = take n (s .mask); first = s .first }

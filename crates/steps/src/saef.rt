@@ -1,0 +1,185 @@
+// SAEF (001, figure 8), block by block.
+use crate::Pair;
+use crate::State;
+use crate::Step;
+use blocks::front;
+use blocks::xored;
+use ciphers::Cipher;
+ghost use mathlib.Core.Path.{_≡_};
+ghost use Prim.Native.Nat.{_+_, _≤_};
+ghost use lib.ListN.{length, take};
+ghost use Rattle.ciphers.specs.Ciphers.{blockOf};
+ghost use Rattle.modes.specs.Mode.{Mode};
+ghost use Rattle.modes.specs.Saef.{saefTweak, saefHead, saefBody, maskHalf, maskInput, maskOther};
+ghost use Rattle.steps.specs.declared.Kind.the-variants.{Saef};
+ghost use Rattle.steps.specs.Skinny.{skinny};
+ghost use Rattle.steps.specs.Modes.{modeOf, stateOf};
+ghost use Rattle.steps.specs.Steps.{Stepped, Paired, unmaskedOf, movedOf};
+
+// The first block's: the nonce, 0000, 1 and the flag; every other's: zeros and the flag.
+fn tweak(nonce: &[u8], first: bool, flag: u8) -> [u8; 16]
+    requires { ⌜ (length (now nonce) + 1 ≤ 16) × (flag ≤ 7) ⌝ }
+    ensures { λ r. ⌜ take (length (now (nonce .entry)) + 1) r ≡ saefTweak (now (nonce .entry)) first flag ⌝ }
+{
+    let k = nonce.len();
+    if first {
+        let mut t = front(nonce, k);
+        t[k] = 8 + flag;
+        return t;
+    }
+    let mut t = [0u8; 16];
+    t[k] = flag;
+    t
+}
+
+fn head_flag(empty: bool, full: bool) -> u8
+    ensures { λ r. ⌜ (r ≡ saefHead empty full) × (r ≤ 7) ⌝ }
+{
+    if empty {
+        return if full { 6 } else { 7 };
+    }
+    if full { 2 } else { 3 }
+}
+
+fn body_flag(full: bool) -> u8
+    ensures { λ r. ⌜ (r ≡ saefBody full) × (r ≤ 7) ⌝ }
+{
+    if full { 4 } else { 5 }
+}
+
+// Half 0 of a masked header block.
+fn head_delta(c: Cipher, key: [u8; 16], nonce: &[u8], flag: u8, s: State, x: [u8; 16]) -> [u8; 16]
+    requires { ⌜ (length (now nonce) + 1 ≡ blockOf c) × (flag ≤ 7) ⌝ }
+    ensures { λ r. ⌜ take (blockOf c) r ≡ maskHalf (blockOf c) (skinny c key) (now (nonce .entry)) 0 flag (stateOf Saef (blockOf c) s) (take (blockOf c) x) ⌝ }
+{
+    let t = tweak(nonce, s.first, flag);
+    let delta = s.mask;
+    let y = xored(x, delta);
+    let f = forkskinny::fork_by(c, key, t, y, 0);
+    f.half0
+}
+
+pub fn head(c: Cipher, key: [u8; 16], nonce: &[u8], s: State, x: [u8; 16]) -> State
+    requires { ⌜ length (now nonce) + 1 ≡ blockOf c ⌝ }
+    ensures { λ r. ⌜ (stateOf Saef (blockOf c) r ≡ (modeOf Saef c key (now (nonce .entry))) .head (stateOf Saef (blockOf c) s) (take (blockOf c) x)) × (r .number ≤ s .number + 1) ⌝ }
+{
+    let delta = head_delta(c, key, nonce, 0, s, x);
+    State {
+        mask: delta,
+        number: s.number,
+        first: false,
+    }
+}
+
+pub fn head_last(
+    c: Cipher,
+    key: [u8; 16],
+    nonce: &[u8],
+    empty: bool,
+    full: bool,
+    s: State,
+    x: [u8; 16],
+) -> State
+    requires { ⌜ length (now nonce) + 1 ≡ blockOf c ⌝ }
+    ensures { λ r. ⌜ (stateOf Saef (blockOf c) r ≡ (modeOf Saef c key (now (nonce .entry))) .headLast empty full (stateOf Saef (blockOf c) s) (take (blockOf c) x)) × (r .number ≤ 1) ⌝ }
+{
+    let flag = head_flag(empty, full);
+    let delta = head_delta(c, key, nonce, flag, s, x);
+    State {
+        mask: delta,
+        number: 1,
+        first: false,
+    }
+}
+
+// Both halves of a masked body block.
+fn both(c: Cipher, key: [u8; 16], nonce: &[u8], flag: u8, s: State, x: [u8; 16]) -> Pair
+    requires { ⌜ (length (now nonce) + 1 ≡ blockOf c) × (flag ≤ 7) ⌝ }
+    ensures { λ r. ⌜ Paired Saef (blockOf c) (maskHalf (blockOf c) (skinny c key) (now (nonce .entry)) 0 flag) (maskHalf (blockOf c) (skinny c key) (now (nonce .entry)) 1 flag) s x (r .first) (r .second) ⌝ }
+{
+    let t = tweak(nonce, s.first, flag);
+    let delta = s.mask;
+    let y = xored(x, delta);
+    let f = forkskinny::fork_by(c, key, t, y, 2);
+    let half0 = f.half0;
+    let half1 = f.half1;
+    Pair {
+        first: half0,
+        second: half1,
+    }
+}
+
+// Back from a masked half 0: the masked block, and half 1.
+fn back(c: Cipher, key: [u8; 16], nonce: &[u8], flag: u8, s: State, x: [u8; 16]) -> Pair
+    requires { ⌜ (length (now nonce) + 1 ≡ blockOf c) × (flag ≤ 7) ⌝ }
+    ensures { λ r. ⌜ Paired Saef (blockOf c) (maskInput (blockOf c) (skinny c key) (now (nonce .entry)) flag) (maskOther (blockOf c) (skinny c key) (now (nonce .entry)) flag) s x (r .first) (r .second) ⌝ }
+{
+    let t = tweak(nonce, s.first, flag);
+    let delta = s.mask;
+    let y = xored(x, delta);
+    let u = forkskinny::unfork_by(c, key, t, y, 0, 2);
+    let input = u.input;
+    let other = u.other;
+    Pair {
+        first: input,
+        second: other,
+    }
+}
+
+// Delta comes off the first block.
+fn unmasked(s: State, p: Pair) -> Pair
+    ensures { λ r. ⌜ (r ≡ unmaskedOf s p) × (length (r .first) ≡ 16) ⌝ }
+{
+    let delta = s.mask;
+    let first = p.first;
+    let second = p.second;
+    Pair {
+        first: xored(first, delta),
+        second,
+    }
+}
+
+// Delta comes off the first block, and the second one is the next Delta.
+fn moved(s: State, p: Pair) -> Step
+    ensures { λ r. ⌜ (r ≡ movedOf s p) × (length (r .out) ≡ 16) ⌝ }
+{
+    let delta = s.mask;
+    let first = p.first;
+    let second = p.second;
+    Step {
+        out: xored(first, delta),
+        next: State {
+            mask: second,
+            number: s.number,
+            first: false,
+        },
+    }
+}
+
+pub fn seal_block(c: Cipher, key: [u8; 16], nonce: &[u8], s: State, x: [u8; 16]) -> Step
+    requires { ⌜ length (now nonce) + 1 ≡ blockOf c ⌝ }
+    ensures { λ r. ⌜ Stepped Saef (blockOf c) ((modeOf Saef c key (now (nonce .entry))) .out) ((modeOf Saef c key (now (nonce .entry))) .next) s x (r .out) (r .next) ⌝ }
+{
+    moved(s, both(c, key, nonce, 1, s, x))
+}
+
+pub fn seal_last(c: Cipher, key: [u8; 16], nonce: &[u8], full: bool, s: State, x: [u8; 16]) -> Pair
+    requires { ⌜ length (now nonce) + 1 ≡ blockOf c ⌝ }
+    ensures { λ r. ⌜ Paired Saef (blockOf c) ((modeOf Saef c key (now (nonce .entry))) .fin full) ((modeOf Saef c key (now (nonce .entry))) .tag full) s x (r .first) (r .second) ⌝ }
+{
+    unmasked(s, both(c, key, nonce, body_flag(full), s, x))
+}
+
+pub fn open_block(c: Cipher, key: [u8; 16], nonce: &[u8], s: State, x: [u8; 16]) -> Step
+    requires { ⌜ length (now nonce) + 1 ≡ blockOf c ⌝ }
+    ensures { λ r. ⌜ Stepped Saef (blockOf c) ((modeOf Saef c key (now (nonce .entry))) .back) ((modeOf Saef c key (now (nonce .entry))) .backNext) s x (r .out) (r .next) ⌝ }
+{
+    moved(s, back(c, key, nonce, 1, s, x))
+}
+
+pub fn open_last(c: Cipher, key: [u8; 16], nonce: &[u8], full: bool, s: State, x: [u8; 16]) -> Pair
+    requires { ⌜ length (now nonce) + 1 ≡ blockOf c ⌝ }
+    ensures { λ r. ⌜ Paired Saef (blockOf c) ((modeOf Saef c key (now (nonce .entry))) .unfin full) ((modeOf Saef c key (now (nonce .entry))) .untag full) s x (r .first) (r .second) ⌝ }
+{
+    unmasked(s, back(c, key, nonce, body_flag(full), s, x))
+}
