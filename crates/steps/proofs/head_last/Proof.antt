@@ -13,7 +13,7 @@ enum-told : tie.Need-enum-told
 enum-told c = search needs
 
 head-last-requires : tie.Need-head-last-requires
-head-last-requires c κs = 
+head-last-requires c κs =
     let a = c .before .before .before .args in
     (subst (λ (k : Kind). length (a .nonce .now) + tailOf k ≡ blockOf (a .c)) (c .enum-told .given .1) (c .before .before .before .pre .0), c .before .before .before .pre .1)
 
@@ -21,12 +21,12 @@ enum-told-2 : tie.Need-enum-told-2
 enum-told-2 c = search needs
 
 head-last-requires-2 : tie.Need-head-last-requires-2
-head-last-requires-2 c κs = 
+head-last-requires-2 c κs =
     let a = c .before .before .before .args in
     subst (λ (k : Kind). length (a .nonce .now) + tailOf k ≡ blockOf (a .c)) (c .enum-told2 .given .1) (c .before .before .before .pre .0)
 
 returns : tie.Need-returns
-returns c = 
+returns c =
     let a = c .before .before .before .before .args in
     subst⁻¹
     (λ (k : Kind).
@@ -36,7 +36,7 @@ returns c =
     (c .head-last .ensures)
 
 returns-2 : tie.Need-returns-2
-returns-2 c = 
+returns-2 c =
     let a = c .before .before .before .before .args in
     subst⁻¹
     (λ (k : Kind).

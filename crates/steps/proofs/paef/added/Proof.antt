@@ -16,7 +16,7 @@ add-t7 c = search needs
 
 returns : tie.Need-returns
 unfolding addedOf
-returns c = 
+returns c =
     let a = c .before .before .before .before .before .args in
     ap (λ (l : List ℕ). record { out = a .p .first; next = record { mask = l; number = a .s .number + 1; first = false } }) (c .before .xored .ensures)
 

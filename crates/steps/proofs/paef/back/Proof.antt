@@ -13,7 +13,7 @@ unfork-by-requires : tie.Need-unfork-by-requires
 unfork-by-requires c κs = search needs
 
 returns : tie.Need-returns
-returns c = 
+returns c =
     let a = c .before .before .before .before .before .args in
     back-paired (a .c) (a .key) (a .nonce .now) (a .flag) (a .s) (a .x) _ (c .before .before .before .before .before .pre .0) (c .before .before .before .tweak .ensures) _ (c .before .before .unfork-by .ensures)
 

@@ -16,7 +16,7 @@ add-t7 c = search needs
 
 returns : tie.Need-returns
 unfolding paef
-returns c = 
+returns c =
     let a = c .before .before .before .args in
     (ap (λ (l : List ℕ). record { sum = l; number = a .s .number + 1 }) (c .before .head-sum .ensures), omega arith)
 

@@ -21,7 +21,7 @@ head-sum-requires c κs = search needs
 
 returns : tie.Need-returns
 unfolding paef
-returns c = 
+returns c =
     let a = c .before .before .before .args in
     let n = blockOf (a .c) in (
       ap (λ (l : List ℕ). record { sum = l; number = 1 })

@@ -16,7 +16,7 @@ xored-requires : tie.Need-xored-requires
 xored-requires c κs = search needs
 
 returns : tie.Need-returns
-returns c = 
+returns c =
     let a = c .before .before .before .before .before .before .args in
     head-is (a .c) (a .key) (a .nonce .now) (a .flag) (a .s) (a .x) _ (c .before .before .before .before .before .before .pre .0) (c .before .before .before .before .tweak .ensures) _ _ (c .before .before .before .fork-by .ensures) (c .xored .ensures)
 

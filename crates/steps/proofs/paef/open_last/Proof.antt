@@ -14,7 +14,7 @@ back-requires : tie.Need-back-requires
 back-requires c κs = search needs
 
 returns : tie.Need-returns
-returns c = 
+returns c =
     let a = c .before .before .before .before .before .args in
     unlast-paired _ _ _ (a .full) _ (c .before .body-flag .ensures .0) (a .s) (a .x) _ (c .before .before .xored .ensures) _ (c .back .ensures)
 

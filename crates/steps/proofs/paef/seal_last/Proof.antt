@@ -15,7 +15,7 @@ xored-requires : tie.Need-xored-requires
 xored-requires c κs = search needs
 
 returns : tie.Need-returns
-returns c = 
+returns c =
     let a = c .before .before .before .before .before .before .before .args in
     last-paired _ _ _ (a .full) _ (c .before .before .before .before .before .body-flag .ensures .0) (a .s) (a .x) _ (c .before .before .before .before .both .ensures) _ (c .xored .ensures) (omega (arith, c .xored .ok))
 

@@ -32,7 +32,7 @@ array-write-t-2 c = search needs
 
 returns : tie.Need-returns
 unfolding paefTweak be16
-returns c = 
+returns c =
     let a = c .before .before .args in
     let v = a .flag * 8192 + a .number in
     two-behind (a .nonce .now) (c .front .result) (c .front .ensures) (v / 256 % 256) (v % 256) (c .before .before .pre .0)

@@ -16,7 +16,7 @@ fork-by-requires : tie.Need-fork-by-requires
 fork-by-requires c κs = search needs
 
 returns : tie.Need-returns
-returns c = 
+returns c =
     let a = c .before .before .before .before .before .before .args in
     head-is (a .c) (a .key) (a .nonce .now) (a .flag) (a .s) (a .x) _ _ (c .before .before .before .before .before .before .pre .0) (c .before .before .before .before .tweak .ensures) (c .before .before .xored .ensures) _ (c .before .fork-by .ensures)
 

@@ -22,7 +22,7 @@ head-delta-requires c κs = search needs
 
 returns : tie.Need-returns
 unfolding saef
-returns c = 
+returns c =
     let a = c .before .before .before .args in
     let n = blockOf (a .c) in (
       ap (λ (l : List ℕ). record { delta = l; first = false })

@@ -14,7 +14,7 @@ xored-requires c κs = search needs
 
 returns : tie.Need-returns
 unfolding movedOf
-returns c = 
+returns c =
     let a = c .before .before .before .before .args in (
       ap (λ (l : List ℕ). record { out = l; next = record { mask = a .p .second; number = a .s .number; first = false } }) (c .xored .ensures),
       omega (arith, c .xored .ok),

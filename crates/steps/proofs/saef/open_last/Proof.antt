@@ -22,7 +22,7 @@ unmasked-requires c κs = search needs
 
 returns : tie.Need-returns
 unfolding saef
-returns c = 
+returns c =
     let a = c .before .before .before .before .args in
     let n = blockOf (a .c) in
     let F = skinny (a .c) (a .key) in

@@ -20,7 +20,7 @@ array-write-t c = search needs
 
 returns : tie.Need-returns
 unfolding saefTweak
-returns c = 
+returns c =
     let a = c .before .before .before .args in
     one-behind (a .nonce .now) (c .front .result) (c .front .ensures) (8 + a .flag) (c .before .before .before .pre .0)
     ∙ sym (ap (λ (b : Bool). saefTweak (a .nonce .now) b (a .flag)) (c .before .if1 .taken))
@@ -30,7 +30,7 @@ array-write-t-2 c = search needs
 
 returns-2 : tie.Need-returns-2
 unfolding saefTweak
-returns-2 c = 
+returns-2 c =
     let a = c .before .before .args in
     one-behind-zeros (length (a .nonce .now)) (a .flag) (c .before .before .pre .0)
     ∙ sym (ap (λ (b : Bool). saefTweak (a .nonce .now) b (a .flag)) (c .if1 .left))

@@ -13,7 +13,7 @@ xored-requires c κs = search needs
 
 returns : tie.Need-returns
 unfolding unmaskedOf
-returns c = 
+returns c =
     let a = c .before .before .before .before .args in
     (ap (λ (l : List ℕ). record { first = l; second = a .p .second }) (c .xored .ensures), omega (arith, c .xored .ok))
 

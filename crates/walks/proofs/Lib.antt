@@ -1,0 +1,6 @@
+mod Opened
+mod Places
+mod Sealed
+mod Walked
+mod Wholes
+mod Writing

@@ -1,0 +1,268 @@
+-- Opening a run, from what the callees ensure.
+--     judged-yes, judged-no   the test at its end: its two returns
+--     turned                  a block that is not the last
+--     ended                   the last block, and the bytes behind it
+--     Going                   the loop's invariant: how it begins, what a turn and the end require, and what they do to it
+-- Assumes nothing.
+use mathlib.Core.Path.{_≡_, refl, sym, ap, ap₂, _∙_, subst, subst⁻¹}
+use mathlib.Core.Bool.{Bool, true, false, _&&_}
+use mathlib.Core.List.{List, _∷_, _++_}
+use Prim.Native.Nat.{ℕ, zero, suc, _+_, _-_, _≤_, _<_}
+use native.Mathlib.Omega.{arith}
+use lib.ListN.{length, take, drop, replicate}
+use lib.Seq.{length-take-le, take-take, take-add, drop-at}
+use Rattle.ciphers.specs.declared.Cipher.{Cipher}
+use Rattle.ciphers.specs.Ciphers.{blockOf}
+use Rattle.modes.specs.Blocks.{full, ten, pad, same}
+use Rattle.modes.specs.Mode.{Mode, Opened, before, judge, tagOf, blockOf as headOf, openLast, openRest}
+use Rattle.modes.specs.Paef.{paef}
+use Rattle.modes.specs.Saef.{saef}
+use Rattle.modes.proofs.Bytes.{pad-long}
+use Rattle.modes.proofs.Turn.{Opening, open-begin, open-turn, open-end}
+use Rattle.steps.specs.declared.Kind.{Kind}
+use Rattle.steps.specs.declared.Kind.the-variants.{Paef, Saef}
+use Rattle.steps.specs.declared.State.{State}
+use Rattle.steps.specs.Modes.{Carried, modeOf, stateOf}
+use Rattle.steps.specs.Steps.{Stepped, Paired}
+use Rattle.blocks.proofs.Parts.{part-rest}
+use Rattle.walks.proofs.Places.{block-some, block-most, part-long}
+use Rattle.walks.proofs.Writing.{Writing, writing-none, writing-more, writing-end}
+
+-- ---- the test
+
+pub judged-yes : {a b x y : Bool} → a ≡ x → b ≡ y → a ≡ true → b ≡ (x && y)
+judged-yes {y = y} ea eb h = eb ∙ ap (λ (z : Bool). z && y) (sym h ∙ ea)
+
+pub judged-no : {a x : Bool} (y : Bool) → a ≡ x → a ≡ false → false ≡ (x && y)
+judged-no y ea h = ap (λ (z : Bool). z && y) (sym h ∙ ea)
+
+-- the bytes behind r of n bytes
+behind : (r n : ℕ) (l : List ℕ) → r ≤ n → n ≤ length l → drop r (take n l) ≡ take (n - r) (drop r l)
+behind r n l h k =
+    let e : n ≡ r + (n - r) = omega arith in
+    ap (λ (j : ℕ). drop r (take j l)) e
+    ∙ ap (drop r) (take-add r (n - r) l)
+    ∙ drop-at (take r l) (take (n - r) (drop r l)) r (length-take-le r l (omega arith))
+
+-- the front of a one bit and zeros, however many zeros follow
+zeros-front : (j m n : ℕ) → j ≤ m → j ≤ n → take j (replicate m 0) ≡ take {A = ℕ} j (replicate n 0)
+zeros-front zero m n hm hn = refl
+zeros-front (suc j) zero n hm hn = absurd (omega arith)
+zeros-front (suc j) (suc m) zero hm hn = absurd (omega arith)
+zeros-front (suc j) (suc m) (suc n) hm hn = ap (λ (t : List ℕ). 0 ∷ t) (zeros-front j m n (omega arith) (omega arith))
+
+ten-front : (j m n : ℕ) → j ≤ suc m → j ≤ suc n → take j (ten m) ≡ take j (ten n)
+ten-front zero m n hm hn = refl
+ten-front (suc j) m n hm hn = ap (λ (t : List ℕ). 128 ∷ t) (zeros-front j m n (omega arith) (omega arith))
+
+-- ---- a block, and the end
+
+-- in PAEF and SAEF the last block comes before the leading bytes of the second
+block-first : (k : Kind) (c : Cipher) (key nonce : List ℕ) → modeOf k c key nonce .blockFirst ≡ true
+unfolding paef saef
+block-first Paef c key nonce = refl
+block-first Saef c key nonce = refl
+
+-- what the end of a run opens to, where the mode opens it to n bytes of `first` and of `second`
+module _ {St : Type 0} (n : ℕ) (M : Mode St) (st : St) (part first second : List ℕ) where
+  abbrev r : ℕ
+  r = length part - n
+
+  open-is : M .blockFirst ≡ true → take n first ≡ M .unfin (full n r) st (take n part)
+      → take n second ≡ M .untag (full n r) st (take n part) → openLast n M st part ≡ judge n r (take n first) (take n second) (drop n part)
+  unfolding openLast headOf tagOf
+  open-is e ef es =
+      let f = full n r in
+      ap (λ (b : Bool). judge n r (M .unfin f st (headOf b n r part)) (M .untag f st (headOf b n r part)) (tagOf b n r part)) e
+      ∙ ap₂ (λ (x y : List ℕ). judge n r x y (drop n part)) (sym ef) (sym es)
+
+  judge-is : r ≤ n → n ≤ 16 → length first ≡ 16
+      → judge n r (take n first) (take n second) (drop n part)
+      ≡ record {
+        authentic = same (take r second) (drop n part) && same (take (n - r) (drop r first)) (take (n - r) (ten 15));
+        body = take r first;
+      }
+  unfolding judge
+  judge-is h k l =
+      let b = behind r n first h (omega arith) in
+      let t = ten-front (n - r) n 15 (omega arith) (omega arith) in
+      rw (take-take r n first h, take-take r n second h, b, t)
+
+-- the front of a part, opened into a rest; m is the n of the code
+module _ (k : Kind) (c : Cipher) (key nonce : List ℕ) (s : State) (part rest₀ : List ℕ) where
+  abbrev n : ℕ
+  n = blockOf c
+
+  abbrev M : Mode (Carried k)
+  M = modeOf k c key nonce
+
+  abbrev st : Carried k
+  st = stateOf k n s
+
+  -- what a turn ensures
+  abbrev Turned : (next : State) (rest : List ℕ) → Type 0
+  Turned next rest =
+      ((stateOf k n next ≡ M .backNext st (take n part)) × (next .number ≤ s .number + 1))
+      × ((rest ≡ M .back st (take n part) ++ drop n rest₀) × (length (M .back st (take n part)) ≡ n))
+
+  pub turned : (m : ℕ) (x out : List ℕ) (next : State) (rest : List ℕ) → m ≡ n → take m x ≡ pad m part
+      → Stepped k n (M .back) (M .backNext) s x out next → rest ≡ take m out ++ drop m rest₀ → n ≤ length part → Turned next rest
+  turned m x out next rest em ex t er h =
+      let e : take n x ≡ take n part = subst (λ (j : ℕ). take j x ≡ pad j part) em ex ∙ pad-long n part h in
+      let o : take n out ≡ M .back st (take n part) = t .out-is ∙ ap (M .back st) e in
+      let l : length (take n out) ≡ n = length-take-le n out (omega (arith, t .long, block-most c)) in (
+        (t .next-is ∙ ap (M .backNext st) e, t .number),
+        (er ∙ ap (λ (j : ℕ). take j out ++ drop j rest₀) em ∙ ap (λ (y : List ℕ). y ++ drop n rest₀) o, ap length (sym o) ∙ l),
+      )
+
+  abbrev opened : Opened
+  opened = openLast n M st part
+
+  -- what the end ensures
+  abbrev Ended : (is : Bool) (rest : List ℕ) → Type 0
+  Ended is rest =
+      (is ≡ opened .authentic)
+      × ((rest ≡ opened .body ++ drop (length part - n) rest₀) × (length (opened .body) ≡ length part - n))
+
+  -- that, from what its callees ensure
+  abbrev Ends : (f : Bool) (x first second : List ℕ) (is : Bool) (rest : List ℕ) → ℕ → Type 0
+  Ends f x first second is rest m =
+      let r = length part - m in
+      f ≡ full m r → take m x ≡ pad m part → Paired k n (M .unfin f) (M .untag f) s x first second → rest ≡ take r first ++ drop r rest₀
+      → is ≡ (same (take r second) (take r (drop m part)) && same (take (m - r) (drop r first)) (take (m - r) (ten 15)))
+      → n ≤ length part → length part ≤ n + n → Ended is rest
+
+  ended-at : (f : Bool) (x first second : List ℕ) (is : Bool) (rest : List ℕ) → Ends f x first second is rest n
+  ended-at f x first second is rest ef ex p er ei h g =
+      let r = length part - n in
+      let e : take n x ≡ take n part = ex ∙ pad-long n part h in
+      let o =
+      open-is n M st part first second (block-first k c key nonce)
+      (p .first-is ∙ ap₂ (λ (b : Bool) (y : List ℕ). M .unfin b st y) ef e)
+      (p .second-is ∙ ap₂ (λ (b : Bool) (y : List ℕ). M .untag b st y) ef e)
+      ∙ judge-is n M st part first second (omega arith) (block-most c) (p .first-long) in
+      let l : length (take r first) ≡ r = length-take-le r first (omega (arith, p .first-long, block-most c)) in (
+        ei
+            ∙ ap (λ (t : List ℕ). same (take r second) t && same (take (n - r) (drop r first)) (take (n - r) (ten 15))) (part-rest n part)
+            ∙ ap (λ (q : Opened). q .authentic) (sym o),
+        (er ∙ ap (λ (q : Opened). q .body ++ drop r rest₀) (sym o), ap (λ (q : Opened). length (q .body)) o ∙ l),
+      )
+
+  pub ended : (m : ℕ) (f : Bool) (x first second : List ℕ) (is : Bool) (rest : List ℕ) → m ≡ n → Ends f x first second is rest m
+  ended m f x first second is rest em = subst⁻¹ (Ends f x first second is rest) em (ended-at f x first second is rest)
+
+-- ---- the loop
+
+-- s is the state at `at`, and room what the loop has made of room₀
+pub record Going (k : Kind) (c : Cipher) (key nonce run : List ℕ) (start : State) (room₀ : List ℕ) (s : State) (at : ℕ) (room : List ℕ)
+    : Type 0 where
+  pub writing
+      : Writing
+      (λ (done : List ℕ).
+      Opening (blockOf c) (modeOf k c key nonce) (stateOf k (blockOf c) s) run at done
+      (openRest (blockOf c) (modeOf k c key nonce) (stateOf k (blockOf c) start) run))
+      room₀ at room
+  pub inside : at + blockOf c < length run
+  pub number : s .number ≤ at + 1
+
+pub going-none : (k : Kind) (c : Cipher) (key nonce run : List ℕ) (start : State) (room : List ℕ) → start .number ≤ 1
+    → blockOf c < length run → Going k c key nonce run start room start 0 room
+going-none k c key nonce run start room e h =
+    let n = blockOf c in
+    let M = modeOf k c key nonce in
+    let st = stateOf k n start in
+    let all = openRest n M st run in
+    record {
+      writing = writing-none (λ (done : List ℕ). Opening n M st run 0 done all) room (open-begin n M (block-some c) st run);
+      inside = omega arith;
+      number = omega arith;
+    }
+
+module _
+    {k : Kind} {c : Cipher} {key nonce run : List ℕ} {start : State} {room₀ : List ℕ} {s : State} {at : ℕ} {room : List ℕ}
+    (g : Going k c key nonce run start room₀ s at room)
+  where
+    abbrev size : ℕ
+    size = blockOf c
+
+    abbrev mode : Mode (Carried k)
+    mode = modeOf k c key nonce
+
+    abbrev here : Carried k
+    here = stateOf k size s
+
+    abbrev all : Opened
+    all = openRest size mode (stateOf k size start) run
+
+    -- what is lent, `&run[at..]` and `&mut room[at..]`; and the room, when the rest came back as ys
+    abbrev lent : List ℕ
+    lent = take (length run - at) (drop at run)
+
+    abbrev left : List ℕ
+    left = take (length room - at) (drop at room)
+
+    abbrev whole : List ℕ → List ℕ
+    whole ys = take at room ++ (ys ++ drop (length room - at) (drop at room))
+
+    more : (s′ : State) (ys : List ℕ) → at + size + size < length run → length run ≤ length room₀ + size
+        → Turned k c key nonce s lent left s′ ys → Going k c key nonce run start room₀ s′ (at + size) (whole ys)
+    more s′ ys h f t =
+        let x = take size (drop at run) in
+        let y = mode .back here (take size lent) in
+        let e : take size lent ≡ x = ap (take size) (part-rest at run) in
+        record {
+          writing =
+              writing-more (g .writing) size y ys (t .1 .1) (omega arith) (t .1 .0)
+              (λ (done : List ℕ). Opening size mode (stateOf k size s′) run (at + size) done all)
+              (λ done o.
+              open-turn size mode (block-some c) here (stateOf k size s′) run at done all x y o h refl (ap (mode .back here) e)
+              (t .0 .0 ∙ ap (mode .backNext here) e));
+          inside = h;
+          number = omega (arith, t .0 .1, g .number, block-some c);
+        }
+
+    -- m is the n of the code, and there is room for what the run opens to
+    module _ (m : ℕ) (em : m ≡ size) (b : length run ≤ 4294967295) (f : length run ≤ length room₀ + size) where
+      -- what a turn requires, and what it does
+      module _ (h : m < length run - m - at) where
+        pub turn-may : (s .number ≤ 4294967296) × (size ≤ length lent) × (size ≤ length left)
+        turn-may =
+            let i = g .inside in
+            let o = g .writing .wrote .long in
+            let p = part-long at run in
+            let q = part-long at room in
+            (omega (arith, g .number), omega arith, omega arith)
+
+        pub going-more : (s′ : State) (ys : List ℕ) → Turned k c key nonce s lent left s′ ys
+            → Going k c key nonce run start room₀ s′ (at + m) (whole ys)
+        going-more s′ ys t =
+            subst⁻¹ (λ (j : ℕ). Going k c key nonce run start room₀ s′ (at + j) (whole ys)) em (more s′ ys (omega arith) f t)
+
+      -- what the end requires, and what it comes to
+      module _ (h : length run - m - at ≤ m) where
+        pub end-may : (s .number ≤ 4294967296) × (size ≤ length lent) × (length lent ≤ size + size) × (length lent ≤ length left + size)
+        end-may =
+            let i = g .inside in
+            let o = g .writing .wrote .long in
+            let p = part-long at run in
+            let q = part-long at room in
+            (omega (arith, g .number), omega arith, omega arith, omega arith)
+
+        told : (done : List ℕ) → Opening size mode here run at done all → before done (openLast size mode here lent) ≡ all
+        told done o =
+            ap (λ (t : List ℕ). before done (openLast size mode here t)) (part-rest at run)
+            ∙ open-end size mode (block-some c) here run at done all o (omega arith)
+
+        pub going-end : (is : Bool) (ys : List ℕ) → Ended k c key nonce s lent left is ys
+            → (is ≡ all .authentic) × (whole ys ≡ all .body ++ drop (length run - size) room₀)
+        going-end is ys e =
+            let i = g .inside in
+            let p = part-long at run in
+            let j = length lent - size in
+            let d : at + j ≡ length run - size = omega arith in
+            let body = openLast size mode here lent .body in (
+              e .0 ∙ ap (λ (o : Opened). o .authentic) (told (g .writing .done) (g .writing .holds)),
+              writing-end (g .writing) j body ys (e .1 .1) (omega arith) (e .1 .0) (all .body)
+                  (λ done o. ap (λ (p : Opened). p .body) (told done o))
+                  ∙ ap (λ (x : ℕ). all .body ++ drop x room₀) d,
+            )

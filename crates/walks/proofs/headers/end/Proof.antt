@@ -1,0 +1,39 @@
+-- `walks::headers::end` meets its contract: one step on the block that was loaded, with its flag. Assumes nothing.
+use mathlib.Core.Path.{_∙_, ap}
+use Prim.Native.Nat.{ℕ}
+use native.Mathlib.Omega.{arith}
+use lib.ListN.{length}
+use Rattle.modes.specs.Blocks.{full}
+use Rattle.ciphers.specs.Ciphers.{blockOf}
+use Rattle.modes.specs.Mode.{Mode}
+use Rattle.steps.specs.Modes.{modeOf, stateOf}
+use Rattle.walks.proofs.Places.{block-most, loaded}
+use borrow.Author.Needs.{needs}
+use Rattle.walks.proofs.headers.end.Statement.{statement}
+use Rattle.walks.proofs.headers.end.Tie as tie
+
+block-of-requires : tie.Need-block-of-requires
+block-of-requires c κs = search needs
+
+is-full-requires : tie.Need-is-full-requires
+is-full-requires c κs = search needs
+
+load-requires : tie.Need-load-requires
+load-requires c κs = omega (arith, c .before .block-of .ensures, block-most (c .before .before .before .before .args .c))
+
+head-last-requires : tie.Need-head-last-requires
+head-last-requires c κs = search needs
+
+returns : tie.Need-returns
+returns c =
+    let a = c .before .before .before .before .before .before .args in
+    let n = blockOf (a .c) in
+    let e = c .before .before .before .block-of .ensures in
+    let f = c .before .before .is-full .ensures ∙ ap (λ (m : ℕ). full m (length (a .part .now))) e in
+    let l = loaded _ n _ (a .part .now) e (c .before .load .ensures) in
+    (c .head-last .ensures .0 ∙ (λ i. modeOf (a .k) (a .c) (a .key) (a .nonce .now) .headLast (a .empty) (f i) (stateOf (a .k) n (a .s)) (l i)), c .head-last .ensures .1)
+
+pub end-spec : {M : Type 1} → statement M
+end-spec =
+    tie.close
+    (tie.spec block-of-requires is-full-requires load-requires head-last-requires returns)

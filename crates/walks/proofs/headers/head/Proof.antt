@@ -1,0 +1,58 @@
+-- `walks::headers::head` meets its contract: a walk, or nothing for an empty header before a body. Assumes nothing.
+use mathlib.Core.Path.{sym, ap, _∙_}
+use mathlib.Core.Bool.{Bool}
+use native.Mathlib.Omega.{arith}
+use Rattle.ciphers.specs.Ciphers.{blockOf}
+use Rattle.modes.specs.Mode.{Mode, walk, headed}
+use Rattle.modes.proofs.Rest.{headed-skip, headed-none, headed-some}
+use Rattle.steps.specs.Modes.{modeOf}
+use borrow.Author.Needs.{needs}
+use Rattle.walks.proofs.headers.head.Statement.{statement}
+use Rattle.walks.proofs.headers.head.Tie as tie
+
+walk-requires : tie.Need-walk-requires
+walk-requires c κs = search needs
+
+returns : tie.Need-returns
+returns c =
+    let a = c .before .before .before .before .args in
+    let n = blockOf (a .c) in
+    let M = modeOf (a .k) (a .c) (a .key) (a .nonce .now) in
+    let h = a .header .now in
+    let b = c .before .if1 .taken in (
+      c .walk .ensures .0
+          ∙ ap (λ (b : Bool). walk n M b (M .start) h) b
+          ∙ sym (headed-none n M h)
+          ∙ sym (ap (λ (b : Bool). headed n M b h) b),
+      c .walk .ensures .1,
+    )
+
+start-requires : tie.Need-start-requires
+start-requires c κs = search needs
+
+returns-2 : tie.Need-returns-2
+returns-2 c =
+    let a = c .before .before .before .before .before .args in
+    let n = blockOf (a .c) in
+    let M = modeOf (a .k) (a .c) (a .key) (a .nonce .now) in
+    let h = a .header .now in (
+      c .start .ensures .0
+          ∙ sym (headed-skip n M h (c .before .if2 .taken))
+          ∙ sym (ap (λ (b : Bool). headed n M b h) (c .before .before .if1 .left)),
+      c .start .ensures .1,
+    )
+
+walk-requires-2 : tie.Need-walk-requires-2
+walk-requires-2 c κs = search needs
+
+returns-3 : tie.Need-returns-3
+returns-3 c =
+    let a = c .before .before .before .before .before .args in
+    let n = blockOf (a .c) in
+    let M = modeOf (a .k) (a .c) (a .key) (a .nonce .now) in
+    let h = a .header .now in
+    (c .walk2 .ensures .0 ∙ sym (headed-some n M (a .empty) h (omega (arith, c .before .if2 .left))), c .walk2 .ensures .1)
+
+pub head-spec : {M : Type 1} → statement M
+head-spec =
+    tie.close (tie.spec walk-requires returns start-requires returns-2 walk-requires-2 returns-3)

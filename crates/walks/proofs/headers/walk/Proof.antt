@@ -1,0 +1,94 @@
+-- `walks::headers::walk` meets its contract: `Walked` holds in every turn. Assumes nothing.
+use Prim.Native.Nat.{_-_}
+use native.Mathlib.Omega.{arith}
+use lib.ListN.{length}
+use borrow.Author.Needs.{needs}
+use Rattle.walks.proofs.Places.{block-some, part-long}
+use Rattle.walks.proofs.Walked.{Walked, walked-none, walked-more, walked-end}
+use Rattle.walks.proofs.headers.walk.Statement.{statement}
+use Rattle.walks.proofs.headers.walk.Tie as tie
+
+abbrev Inv-loop : tie.InvT-loop
+Inv-loop c k key nonce empty header n s₀ at₀ s at = Walked c k key nonce empty header n s at
+
+abbrev μ-loop : tie.MeasureT-loop
+μ-loop c k key nonce empty header n s₀ at₀ s at = length header - at
+
+block-of-requires : tie.Need-block-of-requires Inv-loop μ-loop
+block-of-requires c κs = search needs
+
+start-requires : tie.Need-start-requires Inv-loop μ-loop
+start-requires c κs = search needs
+
+loop-holds : tie.Need-loop-holds Inv-loop μ-loop
+loop-holds c = walked-none _ _ _ _ _ _ _ _ (c .before .block-of .ensures) (c .start .ensures .0) (c .start .ensures .1)
+
+sub-loop : tie.Need-sub-loop Inv-loop μ-loop
+sub-loop c = c .loop .inv .inside
+
+sub-turn : tie.Need-sub-turn Inv-loop μ-loop
+sub-turn c = c .before .loop .inv .inside
+
+part-turn-start : tie.Need-part-turn-start Inv-loop μ-loop
+part-turn-start c = c .before .loop .inv .inside
+
+part-turn-end : tie.Need-part-turn-end Inv-loop μ-loop
+part-turn-end c = omega arith
+
+turn-requires : tie.Need-turn-requires Inv-loop μ-loop
+turn-requires c κs =
+    let l = c .before .before in
+    let a = c .before .before .before .before .before .before .before .args in (
+      c .before .before .before .before .before .before .before .pre .0,
+      omega (arith, l .loop .inv .number, l .loop .inv .inside, c .before .before .before .before .before .before .before .pre .1),
+      omega (arith, part-long (l .loop .at) (a .header .now), c .before .loop-test .taken, l .loop .inv .size),
+    )
+
+add-at : tie.Need-add-at Inv-loop μ-loop
+add-at c = omega (arith, c .before .before .loop-test .taken, c .before .before .before .loop .inv .inside)
+
+loop-less : tie.Need-loop-less Inv-loop μ-loop
+loop-less c = omega (arith, c .before .before .loop-test .taken, c .before .before .before .loop .inv .size, block-some (c .before .before .before .before .before .before .before .before .args .c))
+
+loop-again : tie.Need-loop-again Inv-loop μ-loop
+loop-again c = walked-more _ _ _ _ _ _ (c .before .before .before .loop .inv) _ (c .before .before .loop-test .taken) (c .turn .ensures .0) (c .turn .ensures .1)
+
+sub-end : tie.Need-sub-end Inv-loop μ-loop
+sub-end c = c .before .loop .inv .inside
+
+part-end-start : tie.Need-part-end-start Inv-loop μ-loop
+part-end-start c = c .before .loop .inv .inside
+
+part-end-end : tie.Need-part-end-end Inv-loop μ-loop
+part-end-end c = omega arith
+
+end-requires : tie.Need-end-requires Inv-loop μ-loop
+end-requires c κs =
+    let l = c .before .before in
+    (c .before .before .before .before .before .before .before .pre .0, omega (arith, l .loop .inv .number, l .loop .inv .inside, c .before .before .before .before .before .before .before .pre .1))
+
+returns : tie.Need-returns Inv-loop μ-loop
+returns c = (walked-end _ _ _ _ _ _ (c .before .before .before .loop .inv) _ (c .before .before .loop-test .left) (c .end .ensures .0), c .end .ensures .1)
+
+pub walk-spec : {M : Type 1} → statement M
+walk-spec =
+    tie.close
+    (tie.spec
+    Inv-loop
+    μ-loop
+    block-of-requires
+    start-requires
+    loop-holds
+    sub-loop
+    sub-turn
+    part-turn-start
+    part-turn-end
+    turn-requires
+    add-at
+    loop-less
+    loop-again
+    sub-end
+    part-end-start
+    part-end-end
+    end-requires
+    returns)

@@ -1,0 +1,146 @@
+-- `walks::opening::run` meets its contract: what has been opened, in front of what the rest opens to, is what the run opens to; the
+-- measure is what is left of the run. Assumes nothing.
+use Prim.Native.Nat.{_-_}
+use native.Mathlib.Omega.{arith}
+use lib.ListN.{length}
+use borrow.Author.Needs.{needs}
+use Rattle.walks.proofs.Opened.{Going, going-none, turn-may, going-more, end-may, going-end}
+use Rattle.walks.proofs.Places.{block-some}
+use Rattle.walks.proofs.opening.run.Statement.{statement}
+use Rattle.walks.proofs.opening.run.Tie as tie
+
+abbrev Inv-loop : tie.InvT-loop
+Inv-loop c k key nonce run room₀ n s₀ at₀ room s at = Going k c key nonce run s₀ room₀ s at room
+
+abbrev μ-loop : tie.MeasureT-loop
+μ-loop c k key nonce run room₀ n s₀ at₀ room s at = length run - at
+
+block-of-requires : tie.Need-block-of-requires Inv-loop μ-loop
+block-of-requires c κs = tt
+
+loop-holds : tie.Need-loop-holds Inv-loop μ-loop
+loop-holds c =
+    let st = c .before .before .before .before in
+    let a = st .args in
+    going-none (a .k) (a .c) (a .key) (a .nonce .now) (a .run .now) (a .start) (a .room .now) (st .pre .1) (st .pre .2)
+
+sub-loop : tie.Need-sub-loop Inv-loop μ-loop
+sub-loop c = omega (arith, c .before .block-of .ensures, c .loop .inv .inside)
+
+sub-loop-2 : tie.Need-sub-loop-2 Inv-loop μ-loop
+sub-loop-2 c = omega (arith, c .before .block-of .ensures, c .loop .inv .inside)
+
+sub-turn : tie.Need-sub-turn Inv-loop μ-loop
+sub-turn c = omega (arith, c .before .loop .inv .inside)
+
+part-turn-start : tie.Need-part-turn-start Inv-loop μ-loop
+part-turn-start c = omega (arith, c .before .loop .inv .inside)
+
+part-turn-end : tie.Need-part-turn-end Inv-loop μ-loop
+part-turn-end c = omega (arith, c .before .loop .inv .inside)
+
+sub-turn-2 : tie.Need-sub-turn-2 Inv-loop μ-loop
+sub-turn-2 c = omega (arith, c .before .before .loop .inv .inside)
+
+part-turn-start-2 : tie.Need-part-turn-start-2 Inv-loop μ-loop
+part-turn-start-2 c = omega (arith, c .before .before .loop .inv .inside)
+
+part-turn-end-2 : tie.Need-part-turn-end-2 Inv-loop μ-loop
+part-turn-end-2 c = omega (arith, c .before .before .loop .inv .inside)
+
+turn-requires : tie.Need-turn-requires Inv-loop μ-loop
+turn-requires c κs =
+    let i = c .before .before in
+    let n = i .before .before in
+    let st = n .before .before .before .before in
+    let m = turn-may (i .before .loop .inv) (n .block-of .result) (n .block-of .ensures) (st .pre .3) (st .pre .4) (i .loop-test .taken) in
+    (st .pre .0, m .0, m .1, m .2)
+
+add-at : tie.Need-add-at Inv-loop μ-loop
+add-at c =
+    let l = c .before .before .before .before .before .before in
+    omega (arith, l .loop .inv .inside, l .before .block-of .ensures, l .before .before .before .before .before .pre .3)
+
+loop-less : tie.Need-loop-less Inv-loop μ-loop
+loop-less c =
+    let l = c .before .before .before .before .before .before in
+    omega (arith, l .loop .inv .inside, l .before .block-of .ensures, block-some (l .before .before .before .before .before .args .c))
+
+loop-again : tie.Need-loop-again Inv-loop μ-loop
+loop-again c =
+    let r = c .before .before in
+    let i = r .before .before .before in
+    let l = i .before in
+    let n = l .before in
+    let st = n .before .before .before .before in
+    going-more (l .loop .inv) (n .block-of .result) (n .block-of .ensures) (st .pre .3) (st .pre .4) (i .loop-test .taken) (r .turn .result)
+    (r .turn .last .1 .1 .1 .1 .1 .1 .0) (r .turn .ensures)
+
+sub-end : tie.Need-sub-end Inv-loop μ-loop
+sub-end c = omega (arith, c .before .loop .inv .inside)
+
+part-end-start : tie.Need-part-end-start Inv-loop μ-loop
+part-end-start c = omega (arith, c .before .loop .inv .inside)
+
+part-end-end : tie.Need-part-end-end Inv-loop μ-loop
+part-end-end c = omega (arith, c .before .loop .inv .inside)
+
+sub-end-2 : tie.Need-sub-end-2 Inv-loop μ-loop
+sub-end-2 c = omega (arith, c .before .before .loop .inv .inside)
+
+part-end-start-2 : tie.Need-part-end-start-2 Inv-loop μ-loop
+part-end-start-2 c = omega (arith, c .before .before .loop .inv .inside)
+
+part-end-end-2 : tie.Need-part-end-end-2 Inv-loop μ-loop
+part-end-end-2 c = omega (arith, c .before .before .loop .inv .inside)
+
+end-requires : tie.Need-end-requires Inv-loop μ-loop
+end-requires c κs =
+    let i = c .before .before in
+    let n = i .before .before in
+    let st = n .before .before .before .before in
+    let m = end-may (i .before .loop .inv) (n .block-of .result) (n .block-of .ensures) (st .pre .3) (st .pre .4) (i .loop-test .left) in
+    (st .pre .0, m .0, m .1, m .2, m .3)
+
+same-length : tie.Need-same-length Inv-loop μ-loop
+same-length c = search needs
+
+returns : tie.Need-returns Inv-loop μ-loop
+returns c =
+    let r = c .before .before in
+    let i = r .before .before .before in
+    let l = i .before in
+    let n = l .before in
+    let st = n .before .before .before .before in
+    going-end (l .loop .inv) (n .block-of .result) (n .block-of .ensures) (st .pre .3) (st .pre .4) (i .loop-test .left) (r .end .result)
+    (r .end .last .1 .1 .1 .1 .1 .1 .0) (r .end .ensures)
+
+pub run-spec : {M : Type 1} → statement M
+run-spec =
+    tie.close
+    (tie.spec
+    Inv-loop
+    μ-loop
+    block-of-requires
+    loop-holds
+    sub-loop
+    sub-loop-2
+    sub-turn
+    part-turn-start
+    part-turn-end
+    sub-turn-2
+    part-turn-start-2
+    part-turn-end-2
+    turn-requires
+    add-at
+    loop-less
+    loop-again
+    sub-end
+    part-end-start
+    part-end-end
+    sub-end-2
+    part-end-start-2
+    part-end-end-2
+    end-requires
+    same-length
+    returns)

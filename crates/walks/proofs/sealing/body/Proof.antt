@@ -1,0 +1,127 @@
+-- `walks::sealing::body` meets its contract: `Going` holds in every turn. Assumes nothing.
+use Prim.Native.Nat.{_-_}
+use native.Mathlib.Omega.{arith}
+use lib.ListN.{length}
+use borrow.Author.Needs.{needs}
+use Rattle.walks.proofs.Places.{block-some, part-long}
+use Rattle.walks.proofs.Sealed.{Going, going-none, going-more, going-end, going-long}
+use borrow.Author.Needs.{needs}
+use Rattle.walks.proofs.Places.{block-some, part-long}
+use Rattle.walks.proofs.Sealed.{Going, going-none, going-more, going-end, going-long}
+use Rattle.walks.proofs.sealing.body.Statement.{statement}
+use Rattle.walks.proofs.sealing.body.Tie as tie
+
+abbrev Inv-loop : tie.InvT-loop
+Inv-loop c k key nonce body room₀ n s₀ at₀ room s at = Going c k key nonce body room₀ s₀ n s at room
+
+abbrev μ-loop : tie.MeasureT-loop
+μ-loop c k key nonce body room₀ n s₀ at₀ room s at = length body - at
+
+block-of-requires : tie.Need-block-of-requires Inv-loop μ-loop
+block-of-requires c κs = search needs
+
+loop-holds : tie.Need-loop-holds Inv-loop μ-loop
+loop-holds c = going-none _ _ _ _ _ _ _ _ (c .block-of .ensures) (c .before .before .before .before .pre .2) (c .before .before .before .before .pre .1)
+
+sub-loop : tie.Need-sub-loop Inv-loop μ-loop
+sub-loop c = omega (arith, c .loop .inv .inside)
+
+sub-turn : tie.Need-sub-turn Inv-loop μ-loop
+sub-turn c = omega (arith, c .before .loop .inv .inside)
+
+part-turn-start : tie.Need-part-turn-start Inv-loop μ-loop
+part-turn-start c = omega (arith, c .before .loop .inv .inside)
+
+part-turn-end : tie.Need-part-turn-end Inv-loop μ-loop
+part-turn-end c = omega arith
+
+sub-turn-2 : tie.Need-sub-turn-2 Inv-loop μ-loop
+sub-turn-2 c = omega (arith, c .before .before .loop .inv .inside, c .before .before .loop .inv .writing .wrote .long, c .before .before .before .before .before .before .before .pre .4)
+
+part-turn-start-2 : tie.Need-part-turn-start-2 Inv-loop μ-loop
+part-turn-start-2 c = omega (arith, c .before .before .loop .inv .inside, c .before .before .loop .inv .writing .wrote .long, c .before .before .before .before .before .before .before .pre .4)
+
+part-turn-end-2 : tie.Need-part-turn-end-2 Inv-loop μ-loop
+part-turn-end-2 c = omega arith
+
+turn-requires : tie.Need-turn-requires Inv-loop μ-loop
+turn-requires c κs =
+    let l = c .before .before .before .loop in
+    let a = c .before .before .before .before .before .before .before .before .args in (
+      c .before .before .before .before .before .before .before .before .pre .0,
+      omega (arith, l .inv .number, l .inv .inside, c .before .before .before .before .before .before .before .before .pre .3),
+      omega (arith, part-long (l .at) (a .body .now), c .before .before .loop-test .taken, l .inv .size),
+      omega (arith, part-long (l .at) (l .room), c .before .before .loop-test .taken, l .inv .size, l .inv .writing .wrote .long, c .before .before .before .before .before .before .before .before .pre .4),
+    )
+
+add-at : tie.Need-add-at Inv-loop μ-loop
+add-at c = omega (arith, c .before .before .before .before .before .loop-test .taken, c .before .before .before .before .before .before .loop .inv .inside)
+
+loop-less : tie.Need-loop-less Inv-loop μ-loop
+loop-less c = omega (arith, c .before .before .before .before .before .loop-test .taken, c .before .before .before .before .before .before .loop .inv .size, block-some (c .before .before .before .before .before .before .before .before .before .before .before .args .c))
+
+loop-again : tie.Need-loop-again Inv-loop μ-loop
+loop-again c = going-more _ _ _ _ _ _ _ (c .before .before .before .before .before .before .loop .inv) _ _ (c .before .before .before .before .before .loop-test .taken) (c .before .before .before .before .before .before .before .before .before .before .before .pre .4) (c .before .before .turn .ensures .0 .0) (c .before .before .turn .ensures .0 .1) (c .before .before .turn .ensures .1 .0) (c .before .before .turn .ensures .1 .1)
+
+sub-end : tie.Need-sub-end Inv-loop μ-loop
+sub-end c = omega (arith, c .before .loop .inv .inside)
+
+part-end-start : tie.Need-part-end-start Inv-loop μ-loop
+part-end-start c = omega (arith, c .before .loop .inv .inside)
+
+part-end-end : tie.Need-part-end-end Inv-loop μ-loop
+part-end-end c = omega arith
+
+sub-end-2 : tie.Need-sub-end-2 Inv-loop μ-loop
+sub-end-2 c = omega (arith, c .before .before .loop .inv .inside, c .before .before .loop .inv .writing .wrote .long, c .before .before .before .before .before .before .before .pre .4)
+
+part-end-start-2 : tie.Need-part-end-start-2 Inv-loop μ-loop
+part-end-start-2 c = omega (arith, c .before .before .loop .inv .inside, c .before .before .loop .inv .writing .wrote .long, c .before .before .before .before .before .before .before .pre .4)
+
+part-end-end-2 : tie.Need-part-end-end-2 Inv-loop μ-loop
+part-end-end-2 c = omega arith
+
+end-requires : tie.Need-end-requires Inv-loop μ-loop
+end-requires c κs =
+    let l = c .before .before .before .loop in
+    let a = c .before .before .before .before .before .before .before .before .args in (
+      c .before .before .before .before .before .before .before .before .pre .0,
+      omega (arith, l .inv .number, l .inv .inside, c .before .before .before .before .before .before .before .before .pre .3),
+      omega (arith, part-long (l .at) (a .body .now), c .before .before .loop-test .left, l .inv .size),
+      omega (arith, part-long (l .at) (a .body .now), part-long (l .at) (l .room), l .inv .inside, l .inv .writing .wrote .long, c .before .before .before .before .before .before .before .before .pre .4),
+    )
+
+same-length : tie.Need-same-length Inv-loop μ-loop
+same-length c = going-long _ _ _ _ _ _ _ (c .before .before .before .before .before .before .loop .inv) _ (c .before .before .before .before .before .loop-test .left) (c .before .before .before .before .before .before .before .before .before .before .before .pre .4) (c .before .before .end .ensures .0) (c .before .before .end .ensures .1)
+
+returns : tie.Need-returns Inv-loop μ-loop
+returns c = going-end _ _ _ _ _ _ _ (c .before .before .before .before .before .before .loop .inv) _ (c .before .before .before .before .before .loop-test .left) (c .before .before .before .before .before .before .before .before .before .before .before .pre .4) (c .before .before .end .ensures .0) (c .before .before .end .ensures .1)
+
+pub body-spec : {M : Type 1} → statement M
+body-spec =
+    tie.close
+    (tie.spec
+    Inv-loop
+    μ-loop
+    block-of-requires
+    loop-holds
+    sub-loop
+    sub-turn
+    part-turn-start
+    part-turn-end
+    sub-turn-2
+    part-turn-start-2
+    part-turn-end-2
+    turn-requires
+    add-at
+    loop-less
+    loop-again
+    sub-end
+    part-end-start
+    part-end-end
+    sub-end-2
+    part-end-start-2
+    part-end-end-2
+    end-requires
+    same-length
+    returns)

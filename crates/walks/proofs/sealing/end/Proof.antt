@@ -1,0 +1,66 @@
+-- `walks::sealing::end` meets its contract: the block, and bytes of the second, stored one behind the other. Assumes nothing.
+use mathlib.Core.Path.{ap, _∙_}
+use Prim.Native.Nat.{ℕ}
+use native.Mathlib.Omega.{arith}
+use lib.ListN.{length, length-take, length-drop}
+use Rattle.modes.specs.Blocks.{full}
+use Rattle.ciphers.specs.Ciphers.{blockOf}
+use Rattle.walks.proofs.Places.{block-most, loaded}
+use Rattle.walks.proofs.Sealed.{end-is, end-long}
+use borrow.Author.Needs.{needs}
+use Rattle.walks.proofs.sealing.end.Statement.{statement}
+use Rattle.walks.proofs.sealing.end.Tie as tie
+
+block-of-requires : tie.Need-block-of-requires
+block-of-requires c κs = search needs
+
+is-full-requires : tie.Need-is-full-requires
+is-full-requires c κs = search needs
+
+load-requires : tie.Need-load-requires
+load-requires c κs = omega (arith, c .before .block-of .ensures, block-most (c .before .before .before .before .before .args .c))
+
+seal-last-requires : tie.Need-seal-last-requires
+seal-last-requires c κs = search needs
+
+store-requires : tie.Need-store-requires
+store-requires c κs = (omega (arith, c .before .before .before .before .before .before .block-of .ensures, block-most (c .before .before .before .before .before .before .before .before .before .before .args .c)), omega (arith, c .before .before .before .before .before .before .block-of .ensures, c .before .before .before .before .before .before .before .before .before .before .pre .3))
+
+sub-store : tie.Need-sub-store
+sub-store c = search needs
+
+part-store-start : tie.Need-part-store-start
+part-store-start c = search needs
+
+part-store-end : tie.Need-part-store-end
+part-store-end c = search needs
+
+store-requires-2 : tie.Need-store-requires-2
+store-requires-2 c κs = (omega (arith, c .before .before .before .before .before .before .before .before .before .before .before .before .before .before .pre .2, block-most (c .before .before .before .before .before .before .before .before .before .before .before .before .before .before .args .c)), simp (length-take, length-drop) (omega arith))
+
+same-length : tie.Need-same-length
+same-length c = search needs
+
+returns : tie.Need-returns
+returns c =
+    let a = c .before .before .before .before .before .before .before .before .before .before .before .before .before .before .before .before .before .args in
+    let e = c .before .before .before .before .before .before .before .before .before .before .before .before .before .block-of .ensures in
+    let f = c .before .before .before .before .before .before .before .before .before .before .before .before .is-full .ensures ∙ ap (λ (m : ℕ). full m (length (a .part .now))) e in
+    let l = loaded _ (blockOf (a .c)) _ (a .part .now) e (c .before .before .before .before .before .before .before .before .before .before .before .load .ensures) in
+    (end-is (a .c) (a .k) (a .key) (a .nonce .now) _ _ (a .s) (a .part .now) _ _ _ _ _ _ e f l (c .before .before .before .before .before .before .before .before .before .before .seal-last .ensures) (c .before .before .before .before .before .before .before .before .before .before .before .before .before .before .before .before .before .pre .2) (c .before .before .before .before .before .before .before .before .before .before .before .before .before .before .before .before .before .pre .3) (c .before .before .before .before .before .before .store .ensures) (c .before .before .store2 .ensures), end-long (a .c) (a .k) (a .key) (a .nonce .now) _ _ (a .s) (a .part .now) _ _ _ _ _ _ e f l (c .before .before .before .before .before .before .before .before .before .before .seal-last .ensures) (c .before .before .before .before .before .before .before .before .before .before .before .before .before .before .before .before .before .pre .2) (c .before .before .before .before .before .before .before .before .before .before .before .before .before .before .before .before .before .pre .3) (c .before .before .before .before .before .before .store .ensures) (c .before .before .store2 .ensures))
+
+pub end-spec : {M : Type 1} → statement M
+end-spec =
+    tie.close
+    (tie.spec
+    block-of-requires
+    is-full-requires
+    load-requires
+    seal-last-requires
+    store-requires
+    sub-store
+    part-store-start
+    part-store-end
+    store-requires-2
+    same-length
+    returns)

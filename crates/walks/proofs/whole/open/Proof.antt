@@ -1,0 +1,73 @@
+-- `walks::whole::open` meets its contract: the header, and then one block or the walk over the run. Assumes nothing.
+use Prim.Native.Nat.{_<_}
+use native.Mathlib.Omega.{arith}
+use lib.ListN.{length, length-take}
+use Rattle.ciphers.specs.Ciphers.{blockOf}
+use Rattle.steps.specs.Modes.{modeOf}
+use Rattle.walks.proofs.Places.{block-most}
+use Rattle.walks.proofs.Wholes.{open-none, open-none-room, open-some, open-some-room}
+use borrow.Author.Needs.{needs}
+use Rattle.walks.proofs.whole.open.Statement.{statement}
+use Rattle.walks.proofs.whole.open.Tie as tie
+
+block-of-requires : tie.Need-block-of-requires
+block-of-requires c κs = search needs
+
+head-requires : tie.Need-head-requires
+head-requires c κs = search needs
+
+alone-requires : tie.Need-alone-requires
+alone-requires c κs = search needs
+
+array-share-prefix-block : tie.Need-array-share-prefix-block
+array-share-prefix-block c = omega (arith, c .before .before .before .block-of .ensures, block-most (c .before .before .before .before .before .before .before .before .args .c))
+
+slice-aggregate-equal : tie.Need-slice-aggregate-equal
+slice-aggregate-equal c = simp length-take (omega (arith, c .before .alone .ok, c .before .before .before .before .block-of .ensures, block-most (c .before .before .before .before .before .before .before .before .before .args .c)))
+
+equal-requires : tie.Need-equal-requires
+equal-requires c κs = search needs
+
+returns : tie.Need-returns
+returns c =
+    let a = c .before .before .before .before .before .before .before .before .before .before .args in
+    let n = blockOf (a .c) in
+    let M = modeOf (a .k) (a .c) (a .key) (a .nonce .now) in (
+      open-none n M (a .header .now) _ _ _ (c .before .before .before .before .before .block-of .ensures) (c .before .before .before .head .ensures .0) (c .before .before .alone .ensures) (a .run .now) _ (c .before .before .before .before .if1 .taken) (c .equal .ensures),
+      open-none-room n M (a .header .now) _ _ _ (c .before .before .before .before .before .block-of .ensures) (c .before .before .before .head .ensures .0) (c .before .before .alone .ensures) (a .run .now) _ (c .before .before .before .before .if1 .taken),
+    )
+
+head-requires-2 : tie.Need-head-requires-2
+head-requires-2 c κs = search needs
+
+run-requires : tie.Need-run-requires
+run-requires c κs = search needs
+
+same-length : tie.Need-same-length
+same-length c = search needs
+
+returns-2 : tie.Need-returns-2
+returns-2 c =
+    let a = c .before .before .before .before .before .before .before .before .before .before .before .args in
+    let n = blockOf (a .c) in
+    let M = modeOf (a .k) (a .c) (a .key) (a .nonce .now) in
+    let l : n < length (a .run .now) = omega (arith, c .before .before .before .before .before .if1 .left, c .before .before .before .before .before .before .block-of .ensures, c .before .before .before .before .before .before .before .before .before .before .before .pre .3) in (
+      open-some n M (a .header .now) _ (c .before .before .before .before .head2 .ensures .0) (a .run .now) l _ (c .before .before .run .ensures .0),
+      open-some-room n M (a .header .now) _ (c .before .before .before .before .head2 .ensures .0) (a .run .now) l _ _ (c .before .before .run .ensures .1),
+    )
+
+pub open-spec : {M : Type 1} → statement M
+open-spec =
+    tie.close
+    (tie.spec
+    block-of-requires
+    head-requires
+    alone-requires
+    array-share-prefix-block
+    slice-aggregate-equal
+    equal-requires
+    returns
+    head-requires-2
+    run-requires
+    same-length
+    returns-2)

@@ -1,0 +1,62 @@
+-- `walks::whole::seal` meets its contract: the header, and then one block or the walk over the body. Assumes nothing.
+use native.Mathlib.Omega.{arith}
+use Rattle.ciphers.specs.Ciphers.{blockOf}
+use Rattle.steps.specs.Modes.{modeOf}
+use Rattle.walks.proofs.Places.{block-most}
+use Rattle.walks.proofs.Wholes.{seal-none, seal-some}
+use borrow.Author.Needs.{needs}
+use Rattle.walks.proofs.whole.seal.Statement.{statement}
+use Rattle.walks.proofs.whole.seal.Tie as tie
+
+head-requires : tie.Need-head-requires
+head-requires c κs = search needs
+
+block-of-requires : tie.Need-block-of-requires
+block-of-requires c κs = search needs
+
+alone-requires : tie.Need-alone-requires
+alone-requires c κs = search needs
+
+store-requires : tie.Need-store-requires
+store-requires c κs = (omega (arith, c .before .before .block-of .ensures, block-most (c .before .before .before .before .before .before .before .before .before .args .c)), omega (arith, c .before .before .block-of .ensures, c .before .before .before .before .before .before .before .before .before .pre .3))
+
+same-length : tie.Need-same-length
+same-length c = search needs
+
+returns : tie.Need-returns
+returns c =
+    let a = c .before .before .before .before .before .before .before .before .before .before .before .before .args in
+    let n = blockOf (a .c) in
+    let M = modeOf (a .k) (a .c) (a .key) (a .nonce .now) in
+    seal-none n M (a .header .now) _ _ _ (c .before .before .before .before .before .block-of .ensures) (c .before .before .before .before .before .before .head .ensures .0) (c .before .before .before .alone .ensures) (a .body .now) _ _ (c .before .before .before .before .before .before .before .if1 .taken) (c .before .before .store .ensures)
+
+head-requires-2 : tie.Need-head-requires-2
+head-requires-2 c κs = search needs
+
+body-requires : tie.Need-body-requires
+body-requires c κs = search needs
+
+same-length-2 : tie.Need-same-length-2
+same-length-2 c = search needs
+
+returns-2 : tie.Need-returns-2
+returns-2 c =
+    let a = c .before .before .before .before .before .before .before .before .before .before .args in
+    let n = blockOf (a .c) in
+    let M = modeOf (a .k) (a .c) (a .key) (a .nonce .now) in
+    seal-some n M (a .header .now) _ (c .before .before .before .before .head2 .ensures .0) (a .body .now) _ _ (omega (arith, c .before .before .before .before .before .if1 .left)) (c .before .before .body .ensures)
+
+pub seal-spec : {M : Type 1} → statement M
+seal-spec =
+    tie.close
+    (tie.spec
+    head-requires
+    block-of-requires
+    alone-requires
+    store-requires
+    same-length
+    returns
+    head-requires-2
+    body-requires
+    same-length-2
+    returns-2)

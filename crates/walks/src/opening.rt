@@ -1,0 +1,101 @@
+// A run longer than a block, opened: each block from its own place, on into the rest of the room. Whether the run is authentic is
+// told at its end; the caller clears the room where it is not.
+use crate::is_full;
+use blocks::equal;
+use blocks::load;
+use blocks::store;
+use ciphers::Cipher;
+use steps::Kind;
+use steps::State;
+ghost use mathlib.Core.Path.{_≡_};
+ghost use mathlib.Core.Bool.{_&&_};
+ghost use mathlib.Core.List.{_++_};
+ghost use Prim.Native.Nat.{_+_, _-_, _≤_, _<_};
+ghost use lib.ListN.{length, take, drop};
+ghost use Rattle.ciphers.specs.Ciphers.{blockOf};
+ghost use Rattle.modes.specs.Blocks.{same, ten};
+ghost use Rattle.modes.specs.Mode.{Mode, openLast, openRest};
+ghost use Rattle.steps.specs.Modes.{modeOf, tailOf, stateOf};
+
+// The block at the front of a part, not the last one.
+fn turn(
+    c: Cipher,
+    k: Kind,
+    key: [u8; 16],
+    nonce: &[u8],
+    s: State,
+    part: &[u8],
+    rest: &mut [u8],
+) -> State
+    requires { ⌜ (length (now nonce) + tailOf k ≡ blockOf c) × (s .number ≤ 4294967296) × (blockOf c ≤ length (now part)) × (blockOf c ≤ length (now rest)) ⌝ }
+    ensures { λ r. ⌜ (stateOf k (blockOf c) r ≡ (modeOf k c key (now (nonce .entry))) .backNext (stateOf k (blockOf c) s) (take (blockOf c) (now (part .entry)))) × (r .number ≤ s .number + 1) ⌝ }
+    ensures { λ _. ⌜ (now (rest .exit) ≡ (modeOf k c key (now (nonce .entry))) .back (stateOf k (blockOf c) s) (take (blockOf c) (now (part .entry))) ++ drop (blockOf c) (now (rest .entry))) × (length ((modeOf k c key (now (nonce .entry))) .back (stateOf k (blockOf c) s) (take (blockOf c) (now (part .entry)))) ≡ blockOf c) ⌝ }
+{
+    let n = ciphers::block_of(c);
+    let t = steps::open_block(c, k, key, nonce, s, load(part, n));
+    let out = t.out;
+    store(rest, out, n);
+    t.next
+}
+
+// Whether r bytes of the second block are the tag, and what stands behind r bytes of the last block is padding.
+fn judge(n: usize, r: usize, block: [u8; 16], second: [u8; 16], tag: &[u8]) -> bool
+    requires { ⌜ (r ≤ n) × (n ≤ 16) ⌝ }
+    ensures { λ x. ⌜ x ≡ (same (take r second) (now (tag .entry)) && same (take (n - r) (drop r block)) (take (n - r) (ten 15))) ⌝ }
+{
+    let mut ten = [0u8; 16];
+    ten[0] = 0x80;
+    let tag_is = equal(&second[..r], tag);
+    let padding_is = equal(&block[r..n], &ten[..n - r]);
+    if tag_is {
+        return padding_is;
+    }
+    false
+}
+
+// The end of a run: its last block, and the bytes behind it.
+fn end(
+    c: Cipher,
+    k: Kind,
+    key: [u8; 16],
+    nonce: &[u8],
+    s: State,
+    part: &[u8],
+    rest: &mut [u8],
+) -> bool
+    requires { ⌜ (length (now nonce) + tailOf k ≡ blockOf c) × (s .number ≤ 4294967296) × (blockOf c ≤ length (now part)) × (length (now part) ≤ blockOf c + blockOf c) × (length (now part) ≤ length (now rest) + blockOf c) ⌝ }
+    ensures { λ r. ⌜ r ≡ (openLast (blockOf c) (modeOf k c key (now (nonce .entry))) (stateOf k (blockOf c) s) (now (part .entry))) .authentic ⌝ }
+    ensures { λ _. ⌜ (now (rest .exit) ≡ (openLast (blockOf c) (modeOf k c key (now (nonce .entry))) (stateOf k (blockOf c) s) (now (part .entry))) .body ++ drop (length (now (part .entry)) - blockOf c) (now (rest .entry))) × (length ((openLast (blockOf c) (modeOf k c key (now (nonce .entry))) (stateOf k (blockOf c) s) (now (part .entry))) .body) ≡ length (now (part .entry)) - blockOf c) ⌝ }
+{
+    let n = ciphers::block_of(c);
+    let r = part.len() - n;
+    let f = is_full(n, r);
+    let p = steps::open_last(c, k, key, nonce, f, s, load(part, n));
+    let block = p.first;
+    let second = p.second;
+    store(rest, block, r);
+    judge(n, r, block, second, &part[n..])
+}
+
+pub fn run(
+    c: Cipher,
+    k: Kind,
+    key: [u8; 16],
+    nonce: &[u8],
+    start: State,
+    run: &[u8],
+    room: &mut [u8],
+) -> bool
+    requires { ⌜ (length (now nonce) + tailOf k ≡ blockOf c) × (start .number ≤ 1) × (blockOf c < length (now run)) × (length (now run) ≤ 4294967295) × (length (now run) ≤ length (now room) + blockOf c) ⌝ }
+    ensures { λ r. ⌜ r ≡ (openRest (blockOf c) (modeOf k c key (now (nonce .entry))) (stateOf k (blockOf c) start) (now (run .entry))) .authentic ⌝ }
+    ensures { λ _. ⌜ now (room .exit) ≡ (openRest (blockOf c) (modeOf k c key (now (nonce .entry))) (stateOf k (blockOf c) start) (now (run .entry))) .body ++ drop (length (now (run .entry)) - blockOf c) (now (room .entry)) ⌝ }
+{
+    let n = ciphers::block_of(c);
+    let mut s = start;
+    let mut at = 0;
+    while n < run.len() - n - at {
+        s = turn(c, k, key, nonce, s, &run[at..], &mut room[at..]);
+        at += n;
+    }
+    end(c, k, key, nonce, s, &run[at..], &mut room[at..])
+}
