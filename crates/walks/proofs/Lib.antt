@@ -1,5 +1,5 @@
 mod Opened
-mod Places
+pub mod Places
 mod Sealed
 mod Walked
 mod Wholes

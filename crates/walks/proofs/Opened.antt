@@ -26,7 +26,7 @@ use Rattle.steps.specs.Modes.{Carried, modeOf, stateOf}
 use Rattle.steps.specs.Steps.{Stepped, Paired}
 use Rattle.blocks.proofs.Parts.{part-rest}
 use Rattle.walks.proofs.Places.{block-some, block-most, part-long}
-use Rattle.walks.proofs.Writing.{Writing, writing-none, writing-more, writing-end}
+use Rattle.walks.proofs.Writing.{Writing, writing-none, writing-more, writing-end, writing-reach}
 
 -- ---- the test
 
@@ -254,7 +254,7 @@ module _
             ∙ open-end size mode (block-some c) here run at done all o (omega arith)
 
         pub going-end : (is : Bool) (ys : List ℕ) → Ended k c key nonce s lent left is ys
-            → (is ≡ all .authentic) × (whole ys ≡ all .body ++ drop (length run - size) room₀)
+            → (is ≡ all .authentic) × ((whole ys ≡ all .body ++ drop (length run - size) room₀) × (length (all .body) ≡ length run - size))
         going-end is ys e =
             let i = g .inside in
             let p = part-long at run in
@@ -262,7 +262,12 @@ module _
             let d : at + j ≡ length run - size = omega arith in
             let body = openLast size mode here lent .body in (
               e .0 ∙ ap (λ (o : Opened). o .authentic) (told (g .writing .done) (g .writing .holds)),
-              writing-end (g .writing) j body ys (e .1 .1) (omega arith) (e .1 .0) (all .body)
-                  (λ done o. ap (λ (p : Opened). p .body) (told done o))
-                  ∙ ap (λ (x : ℕ). all .body ++ drop x room₀) d,
+              (
+                writing-end (g .writing) j body ys (e .1 .1) (omega arith) (e .1 .0) (all .body)
+                    (λ done o. ap (λ (p : Opened). p .body) (told done o))
+                    ∙ ap (λ (x : ℕ). all .body ++ drop x room₀) d,
+                writing-reach (g .writing) j body ys (e .1 .1) (omega arith) (e .1 .0) (all .body)
+                    (λ done o. ap (λ (p : Opened). p .body) (told done o))
+                    ∙ d,
+              ),
             )

@@ -32,6 +32,9 @@ module _ {St : Type 0} (n : ℕ) (M : Mode St) (header : List ℕ) (st : St) whe
         let j : 0 ≡ length run - n = omega (arith, size, l) in
         (λ i. sym (ap (λ (o : Opened). o .body) (open-run-empty n M header run (l ∙ size))) i ++ drop (j i) room)
 
+    pub open-none-long : (run : List ℕ) → length run ≡ N → length (openRun n M header run .body) ≡ length run - n
+    open-none-long run l = ap (λ (o : Opened). length (o .body)) (open-run-empty n M header run (l ∙ size)) ∙ omega (arith, size, l)
+
   module _ (h : st ≡ headed n M false header) where
     pub seal-some : (body old new : List ℕ) → 0 < length body → new ≡ sealRest n M st body ++ drop (length body + n) old
         → new ≡ sealRun n M header body ++ drop (length body + n) old
@@ -48,3 +51,6 @@ module _ {St : Type 0} (n : ℕ) (M : Mode St) (header : List ℕ) (st : St) whe
       pub open-some-room : (old new : List ℕ) → new ≡ openRest n M st run .body ++ drop (length run - n) old
           → new ≡ openRun n M header run .body ++ drop (length run - n) old
       open-some-room old new e = e ∙ ap (λ (o : Opened). o .body ++ drop (length run - n) old) rest-is
+
+      pub open-some-long : length (openRest n M st run .body) ≡ length run - n → length (openRun n M header run .body) ≡ length run - n
+      open-some-long e = sym (ap (λ (o : Opened). length (o .body)) rest-is) ∙ e

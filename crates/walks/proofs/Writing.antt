@@ -1,6 +1,6 @@
 -- A loop that writes on into the rest of a room: what it has laid down so far, and what is known of that. One turn lends the rest,
 -- `&mut room[at..]`, and the callee puts x at its front. Assumes nothing.
-use mathlib.Core.Path.{_≡_, _∙_}
+use mathlib.Core.Path.{_≡_, sym, ap, _∙_}
 use mathlib.Core.List.{List, [], _++_}
 use Prim.Native.Nat.{ℕ, _+_, _-_, _≤_}
 use lib.ListN.{length, take, drop}
@@ -31,6 +31,10 @@ module _ {P : List ℕ → Type 0} {room₀ room : List ℕ} {at : ℕ} (w : Wri
   -- the end: what stands in the room
   pub writing-end : (all : List ℕ) → ((done : List ℕ) → P done → done ++ x ≡ all) → after ≡ all ++ drop (at + n) room₀
   writing-end all f = more .said ∙ (λ i. f (w .done) (w .holds) i ++ drop (at + n) room₀)
+
+  -- how long it is
+  pub writing-reach : (all : List ℕ) → ((done : List ℕ) → P done → done ++ x ≡ all) → length all ≡ at + n
+  writing-reach all f = sym (ap length (f (w .done) (w .holds))) ∙ more .reach
 
   -- and nothing is left out
   pub writing-long : length after ≡ length room₀

@@ -88,7 +88,7 @@ pub fn run(
 ) -> bool
     requires { ⌜ (length (now nonce) + tailOf k ≡ blockOf c) × (start .number ≤ 1) × (blockOf c < length (now run)) × (length (now run) ≤ 4294967295) × (length (now run) ≤ length (now room) + blockOf c) ⌝ }
     ensures { λ r. ⌜ r ≡ (openRest (blockOf c) (modeOf k c key (now (nonce .entry))) (stateOf k (blockOf c) start) (now (run .entry))) .authentic ⌝ }
-    ensures { λ _. ⌜ now (room .exit) ≡ (openRest (blockOf c) (modeOf k c key (now (nonce .entry))) (stateOf k (blockOf c) start) (now (run .entry))) .body ++ drop (length (now (run .entry)) - blockOf c) (now (room .entry)) ⌝ }
+    ensures { λ _. ⌜ (now (room .exit) ≡ (openRest (blockOf c) (modeOf k c key (now (nonce .entry))) (stateOf k (blockOf c) start) (now (run .entry))) .body ++ drop (length (now (run .entry)) - blockOf c) (now (room .entry))) × (length ((openRest (blockOf c) (modeOf k c key (now (nonce .entry))) (stateOf k (blockOf c) start) (now (run .entry))) .body) ≡ length (now (run .entry)) - blockOf c) ⌝ }
 {
     let n = ciphers::block_of(c);
     let mut s = start;

@@ -49,7 +49,7 @@ pub fn open(
 ) -> bool
     requires { ⌜ (length (now nonce) + tailOf k ≡ blockOf c) × (length (now header) ≤ 4294967295) × (length (now run) ≤ 4294967295) × (blockOf c ≤ length (now run)) × (length (now run) ≤ length (now room) + blockOf c) ⌝ }
     ensures { λ r. ⌜ r ≡ (openRun (blockOf c) (modeOf k c key (now (nonce .entry))) (now (header .entry)) (now (run .entry))) .authentic ⌝ }
-    ensures { λ _. ⌜ now (room .exit) ≡ (openRun (blockOf c) (modeOf k c key (now (nonce .entry))) (now (header .entry)) (now (run .entry))) .body ++ drop (length (now (run .entry)) - blockOf c) (now (room .entry)) ⌝ }
+    ensures { λ _. ⌜ (now (room .exit) ≡ (openRun (blockOf c) (modeOf k c key (now (nonce .entry))) (now (header .entry)) (now (run .entry))) .body ++ drop (length (now (run .entry)) - blockOf c) (now (room .entry))) × (length ((openRun (blockOf c) (modeOf k c key (now (nonce .entry))) (now (header .entry)) (now (run .entry))) .body) ≡ length (now (run .entry)) - blockOf c) ⌝ }
 {
     let n = ciphers::block_of(c);
     if run.len() == n {

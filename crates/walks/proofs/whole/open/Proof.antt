@@ -5,7 +5,7 @@ use lib.ListN.{length, length-take}
 use Rattle.ciphers.specs.Ciphers.{blockOf}
 use Rattle.steps.specs.Modes.{modeOf}
 use Rattle.walks.proofs.Places.{block-most}
-use Rattle.walks.proofs.Wholes.{open-none, open-none-room, open-some, open-some-room}
+use Rattle.walks.proofs.Wholes.{open-none, open-none-room, open-none-long, open-some, open-some-room, open-some-long}
 use borrow.Author.Needs.{needs}
 use Rattle.walks.proofs.whole.open.Statement.{statement}
 use Rattle.walks.proofs.whole.open.Tie as tie
@@ -29,12 +29,16 @@ equal-requires : tie.Need-equal-requires
 equal-requires c κs = search needs
 
 returns : tie.Need-returns
-returns c =
+returns c = 
     let a = c .before .before .before .before .before .before .before .before .before .before .args in
     let n = blockOf (a .c) in
-    let M = modeOf (a .k) (a .c) (a .key) (a .nonce .now) in (
+    let M = modeOf (a .k) (a .c) (a .key) (a .nonce .now) in
+    (
       open-none n M (a .header .now) _ _ _ (c .before .before .before .before .before .block-of .ensures) (c .before .before .before .head .ensures .0) (c .before .before .alone .ensures) (a .run .now) _ (c .before .before .before .before .if1 .taken) (c .equal .ensures),
-      open-none-room n M (a .header .now) _ _ _ (c .before .before .before .before .before .block-of .ensures) (c .before .before .before .head .ensures .0) (c .before .before .alone .ensures) (a .run .now) _ (c .before .before .before .before .if1 .taken),
+      (
+        open-none-room n M (a .header .now) _ _ _ (c .before .before .before .before .before .block-of .ensures) (c .before .before .before .head .ensures .0) (c .before .before .alone .ensures) (a .run .now) _ (c .before .before .before .before .if1 .taken),
+        open-none-long n M (a .header .now) _ _ _ (c .before .before .before .before .before .block-of .ensures) (c .before .before .before .head .ensures .0) (c .before .before .alone .ensures) (a .run .now) (c .before .before .before .before .if1 .taken),
+      ),
     )
 
 head-requires-2 : tie.Need-head-requires-2
@@ -47,13 +51,16 @@ same-length : tie.Need-same-length
 same-length c = search needs
 
 returns-2 : tie.Need-returns-2
-returns-2 c =
+returns-2 c = 
     let a = c .before .before .before .before .before .before .before .before .before .before .before .args in
     let n = blockOf (a .c) in
     let M = modeOf (a .k) (a .c) (a .key) (a .nonce .now) in
     let l : n < length (a .run .now) = omega (arith, c .before .before .before .before .before .if1 .left, c .before .before .before .before .before .before .block-of .ensures, c .before .before .before .before .before .before .before .before .before .before .before .pre .3) in (
       open-some n M (a .header .now) _ (c .before .before .before .before .head2 .ensures .0) (a .run .now) l _ (c .before .before .run .ensures .0),
-      open-some-room n M (a .header .now) _ (c .before .before .before .before .head2 .ensures .0) (a .run .now) l _ _ (c .before .before .run .ensures .1),
+      (
+        open-some-room n M (a .header .now) _ (c .before .before .before .before .head2 .ensures .0) (a .run .now) l _ _ (c .before .before .run .ensures .1 .0),
+        open-some-long n M (a .header .now) _ (c .before .before .before .before .head2 .ensures .0) (a .run .now) l (c .before .before .run .ensures .1 .1),
+      ),
     )
 
 pub open-spec : {M : Type 1} → statement M

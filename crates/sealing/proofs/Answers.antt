@@ -1,0 +1,105 @@
+-- What the calls answer under a scheme, from what their callees answered: refused by a check, done, or forged. Assumes nothing.
+use mathlib.Core.Path.{_≡_, refl, sym, ap, _∙_}
+use mathlib.Core.Bool.{Bool, true, false}
+use mathlib.Core.List.{List, _++_, append-nil}
+use Prim.Native.Nat.{ℕ, _+_, _-_, _≤_}
+use native.Mathlib.Omega.{arith}
+use lib.Dec.{ltb}
+use lib.ListN.{length, take, drop, replicate}
+use lib.Seq.{take-all, drop-at}
+use Rattle.ciphers.specs.Ciphers.{blockOf}
+use Rattle.modes.specs.Blocks.{pick}
+use Rattle.modes.specs.Mode.{Opened, sealRun, openRun}
+use Rattle.steps.specs.Modes.{modeOf}
+use Rattle.sealing.specs.declared.schemes.Scheme.{Scheme}
+use Rattle.sealing.specs.Schemes.{Fits}
+use Rattle.sealing.specs.Checks.{checkOf}
+use Rattle.sealing.specs.Calls.{Told, refused, done, forged, judged, passed, sealed, opened, sealUnder, openUnder}
+use Rattle.sealing.proofs.Passed.{not-passed}
+
+-- a check that answered k, and what is then told
+told-refused : (k k′ : ℕ) (t : Told) (room : List ℕ) → k ≡ k′ → (k ≡ 0 → ⊥) → refused k room ≡ passed k′ t room
+told-refused k k′ t room e h = ap (λ (j : ℕ). refused j room) e ∙ sym (not-passed k′ t room (λ z. h (e ∙ z)))
+
+told-passed : (k k′ : ℕ) (t : Told) (room : List ℕ) → k ≡ k′ → k ≡ 0 → t ≡ passed k′ t room
+told-passed k k′ t room e z = sym (ap (λ (j : ℕ). passed j t room) (sym e ∙ z))
+
+-- the key as `front` made it
+pub key-whole : (key K : List ℕ) → length key ≡ 16 → K ≡ take 16 key ++ replicate (16 - 16) 0 → K ≡ key
+key-whole key K l e = e ∙ ap (λ (x : List ℕ). x ++ replicate (16 - 16) 0) (take-all 16 key (omega (arith, l))) ∙ append-nil key
+
+module _ (s : Scheme) (key nonce header : List ℕ) (N : ℕ) (size : N ≡ blockOf (s .cipher)) (number : ℕ) where
+  abbrev n : ℕ
+  n = blockOf (s .cipher)
+
+  -- ---- seal
+
+  module _ (body room : List ℕ) (e : number ≡ checkOf s (length key) (length nonce) (length header) (length body) false N (length room)) where
+    seal-check : number ≡ checkOf s (length key) (length nonce) (length header) (length body) false n (length room)
+    seal-check = e ∙ ap (λ (m : ℕ). checkOf s (length key) (length nonce) (length header) (length body) false m (length room)) size
+
+    pub seal-refuses : (number ≡ 0 → ⊥) → refused number room ≡ sealUnder s key nonce header body room
+    unfolding sealUnder
+    seal-refuses h = told-refused number _ _ room seal-check h
+
+    pub seal-does : number ≡ 0 → (K new : List ℕ) → K ≡ key
+        → new ≡ sealRun n (modeOf (s .kind) (s .cipher) K nonce) header body ++ drop (length body + n) room
+        → record { number = 0; length = length body + N; room = new } ≡ sealUnder s key nonce header body room
+    unfolding sealUnder
+    seal-does z K new k put =
+        (λ i. record {
+          number = 0;
+          length = length body + size i;
+          room = (put ∙ ap (λ (x : List ℕ). sealRun n (modeOf (s .kind) (s .cipher) x nonce) header body ++ drop (length body + n) room) k) i;
+        })
+        ∙ told-passed number _ (done (length body + n) (sealed s key nonce header body) room) room seal-check z
+
+  -- ---- open; L is the body's length as the code has it, S whether the run is short
+
+  module _ (run room : List ℕ) (L : ℕ) (S : Bool) (len : L ≡ length run - N) (short : S ≡ ltb (length run) N)
+      (e : number ≡ checkOf s (length key) (length nonce) (length header) L S 0 (length room)) where
+    abbrev l : ℕ
+    l = length run - n
+
+    len-is : L ≡ l
+    len-is = len ∙ ap (λ (m : ℕ). length run - m) size
+
+    open-check : number ≡ checkOf s (length key) (length nonce) (length header) l (ltb (length run) n) 0 (length room)
+    open-check =
+        e
+        ∙ (λ i. checkOf s (length key) (length nonce) (length header) (len-is i) ((short ∙ ap (ltb (length run)) size) i) 0 (length room))
+
+    pub open-refuses : (number ≡ 0 → ⊥) → refused number room ≡ openUnder s key nonce header run room
+    unfolding openUnder
+    open-refuses h = told-refused number _ _ room open-check h
+
+    module _ (z : number ≡ 0) (K : List ℕ) (k : K ≡ key) (r : Bool) (mid : List ℕ)
+        (said : r ≡ openRun n (modeOf (s .kind) (s .cipher) K nonce) header run .authentic)
+        (put : mid ≡ openRun n (modeOf (s .kind) (s .cipher) K nonce) header run .body ++ drop l room) where
+      opens : openRun n (modeOf (s .kind) (s .cipher) K nonce) header run ≡ opened s key nonce header run
+      opens = ap (λ (x : List ℕ). openRun n (modeOf (s .kind) (s .cipher) x nonce) header run) k
+
+      -- the answer by r
+      by : (b : Bool) (t : Told) → r ≡ b
+          → t ≡ pick b (done l (opened s key nonce header run .body) room) (forged l room) → t ≡ openUnder s key nonce header run room
+      unfolding openUnder
+      by b t q f =
+          f
+          ∙ ap (λ (b : Bool). pick b (done l (opened s key nonce header run .body) room) (forged l room))
+          (sym q ∙ said ∙ ap (λ (o : Opened). o .authentic) opens)
+          ∙ told-passed number _ (judged (opened s key nonce header run) l room) room open-check z
+
+      pub open-does : r ≡ true → record { number = 0; length = L; room = mid } ≡ openUnder s key nonce header run room
+      open-does q =
+          by true _ q
+          (λ i. record { number = 0; length = len-is i; room = (put ∙ ap (λ (o : Opened). o .body ++ drop l room) opens) i })
+
+      -- the room was cleared: behind the body's place nothing had changed
+      pub open-forges : r ≡ false → (new : List ℕ) → length (openRun n (modeOf (s .kind) (s .cipher) K nonce) header run .body) ≡ l
+          → new ≡ replicate L 0 ++ drop L mid → record { number = 6; length = 0; room = new } ≡ openUnder s key nonce header run room
+      open-forges q new long put6 =
+          by false _ q
+          (ap (λ (x : List ℕ). record { number = 6; length = 0; room = x })
+          (put6
+          ∙ ap (λ (m : ℕ). replicate m 0 ++ drop m mid) len-is
+          ∙ ap (λ (x : List ℕ). replicate l 0 ++ x) (ap (drop l) put ∙ drop-at (openRun n (modeOf (s .kind) (s .cipher) K nonce) header run .body) (drop l room) l long)))

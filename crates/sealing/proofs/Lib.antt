@@ -1,0 +1,3 @@
+mod Answers
+pub mod Passed
+pub mod Table

@@ -1,0 +1,60 @@
+-- The table of schemes: every scheme that a number names fits the walks, a call under a named scheme is the call under that
+-- scheme, and no other number names one. Assumes nothing.
+use mathlib.Core.Path.{_≡_, refl, ap, subst}
+use Prim.Native.Nat.{ℕ}
+use native.Mathlib.Omega.{arith}
+use mathlib.Core.Bool.{Bool, true, false}
+use mathlib.Core.List.{List}
+use lib.Dec.{eqb}
+use borrow.Author.Tests.{ne-eqb}
+use Rattle.modes.specs.Blocks.{pick}
+use Rattle.sealing.specs.declared.schemes.Scheme.{Scheme}
+use Rattle.sealing.specs.declared.schemes.Named.{Named}
+use Rattle.sealing.specs.declared.schemes.Named.the-variants.{Known, Unknown}
+use Rattle.sealing.specs.Schemes.{scheme1, scheme2, scheme3, schemeOf, Fits}
+use Rattle.sealing.specs.Calls.{under, sealUnder, openUnder, sealOf, openOf}
+
+-- ---- what is named fits
+
+abbrev Fitting : Named → Type 0
+Fitting (Known s) = Fits s
+Fitting Unknown = Unit
+
+pick-fits : (b : Bool) (m k : Named) → Fitting m → Fitting k → Fitting (pick b m k)
+pick-fits true m k p q = p
+pick-fits false m k p q = q
+
+fits1 : Fits scheme1
+fits1 = record { key = refl; nonce = refl; header = omega arith; body = omega arith }
+
+fits2 : Fits scheme2
+fits2 = record { key = refl; nonce = refl; header = omega arith; body = omega arith }
+
+fits3 : Fits scheme3
+fits3 = record { key = refl; nonce = refl; header = omega arith; body = omega arith }
+
+all-fit : (number : ℕ) → Fitting (schemeOf number)
+unfolding schemeOf
+all-fit number =
+    pick-fits (eqb number 1) (Known scheme1) _ fits1
+    (pick-fits (eqb number 2) (Known scheme2) _ fits2 (pick-fits (eqb number 3) (Known scheme3) Unknown fits3 tt))
+
+pub named-fits : (number : ℕ) (s : Scheme) → schemeOf number ≡ Known s → Fits s
+named-fits number s e = subst Fitting e (all-fit number)
+
+-- ---- the calls under a named scheme
+
+module _ (number : ℕ) (s : Scheme) (known : schemeOf number ≡ Known s) (key nonce header input room : List ℕ) where
+  pub seal-known : sealOf number key nonce header input room ≡ sealUnder s key nonce header input room
+  unfolding sealOf
+  seal-known = ap (λ (m : Named). under m (λ s. sealUnder s key nonce header input room) room) known
+
+  pub open-known : openOf number key nonce header input room ≡ openUnder s key nonce header input room
+  unfolding openOf
+  open-known = ap (λ (m : Named). under m (λ s. openUnder s key nonce header input room) room) known
+
+-- ---- every other number
+
+pub none-named : (number : ℕ) → (number ≡ 1 → ⊥) → (number ≡ 2 → ⊥) → (number ≡ 3 → ⊥) → schemeOf number ≡ Unknown
+unfolding schemeOf
+none-named number a b c = simp (ne-eqb number 1 a, ne-eqb number 2 b, ne-eqb number 3 c)

@@ -1,0 +1,42 @@
+-- `sealing::checks::check` meets its contract: check by check. Assumes nothing.
+use native.Mathlib.Omega.{arith}
+use borrow.Author.Tests.{eq-eqb, ne-eqb, lt-ltb, le-ltb}
+use Rattle.sealing.specs.Checks.{checkOf}
+use Rattle.sealing.proofs.checks.check.Statement.{statement}
+use Rattle.sealing.proofs.checks.check.Tie as tie
+
+returns : tie.Need-returns
+unfolding checkOf
+returns c = simp (ne-eqb _ _ (c .if1 .taken))
+
+returns-2 : tie.Need-returns-2
+unfolding checkOf
+returns-2 c = simp (eq-eqb _ _ (c .before .before .if1 .left), ne-eqb _ _ (c .if2 .taken))
+
+returns-3 : tie.Need-returns-3
+unfolding checkOf
+returns-3 c = simp (eq-eqb _ _ (c .before .before .before .before .if1 .left), eq-eqb _ _ (c .before .before .if2 .left), lt-ltb _ _ (c .if3 .taken))
+
+returns-4 : tie.Need-returns-4
+unfolding checkOf
+returns-4 c = simp (eq-eqb _ _ (c .before .before .before .before .before .before .if1 .left), eq-eqb _ _ (c .before .before .before .before .if2 .left), le-ltb _ _ (c .before .before .if3 .left), lt-ltb _ _ (c .if4 .taken))
+
+returns-5 : tie.Need-returns-5
+unfolding checkOf
+returns-5 c = simp (eq-eqb _ _ (c .before .before .before .before .before .before .before .if1 .left), eq-eqb _ _ (c .before .before .before .before .before .if2 .left), le-ltb _ _ (c .before .before .before .if3 .left), le-ltb _ _ (c .before .if4 .left), c .if5 .taken)
+
+add-if6 : tie.Need-add-if6
+add-if6 c = omega (arith, c .before .before .before .before .before .before .before .before .before .pre .0 .body, c .before .before .before .before .before .before .before .before .before .pre .1, c .before .if4 .left)
+
+returns-6 : tie.Need-returns-6
+unfolding checkOf
+returns-6 c = simp (eq-eqb _ _ (c .before .before .before .before .before .before .before .before .if1 .left), eq-eqb _ _ (c .before .before .before .before .before .before .if2 .left), le-ltb _ _ (c .before .before .before .before .if3 .left), le-ltb _ _ (c .before .before .if4 .left), c .before .if5 .left, lt-ltb _ _ (c .if6 .taken))
+
+returns-7 : tie.Need-returns-7
+unfolding checkOf
+returns-7 c = simp (eq-eqb _ _ (c .before .before .before .before .before .before .before .before .if1 .left), eq-eqb _ _ (c .before .before .before .before .before .before .if2 .left), le-ltb _ _ (c .before .before .before .before .if3 .left), le-ltb _ _ (c .before .before .if4 .left), c .before .if5 .left, le-ltb _ _ (c .if6 .left))
+
+pub check-spec : {M : Type 1} → statement M
+check-spec =
+    tie.close
+    (tie.spec returns returns-2 returns-3 returns-4 returns-5 add-if6 returns-6 returns-7)

@@ -1,0 +1,49 @@
+-- `sealing::open` meets its contract: under the scheme that the number names. Assumes nothing.
+use mathlib.Core.Path.{sym, ap, _∙_}
+use Rattle.sealing.specs.declared.schemes.Scheme.{Scheme}
+use Rattle.sealing.specs.declared.schemes.Named.{Named}
+use Rattle.sealing.specs.Calls.{under, openUnder, openOf}
+use Rattle.sealing.proofs.Table.{named-fits}
+use borrow.Author.Needs.{needs}
+use Rattle.sealing.proofs.open.Statement.{statement}
+use Rattle.sealing.proofs.open.Tie as tie
+
+scheme-of-requires : tie.Need-scheme-of-requires
+scheme-of-requires c κs = search needs
+
+enum-known-named : tie.Need-enum-known-named
+enum-known-named c = search needs
+
+open-under-requires : tie.Need-open-under-requires
+open-under-requires c κs = named-fits _ _ (sym (c .before .before .before .before .scheme-of .ensures) ∙ c .before .before .named .given .1)
+
+enum-told : tie.Need-enum-told
+enum-told c = search needs
+
+same-length : tie.Need-same-length
+same-length c = search needs
+
+returns : tie.Need-returns
+unfolding openOf
+returns c = 
+    let a = c .before .before .before .before .before .before .before .before .before .before .before .before .before .args in
+    c .before .before .open-under .ensures
+    ∙ sym (ap (λ (m : Named). under m (λ (s : Scheme). openUnder s (a .key .now) (a .nonce .now) (a .header .now) (a .sealed .now) (a .room .now)) (a .room .now)) (sym (c .before .before .before .before .before .before .before .scheme-of .ensures) ∙ c .before .before .before .before .before .named .given .1))
+
+returns-2 : tie.Need-returns-2
+unfolding openOf
+returns-2 c = 
+    let a = c .before .before .before .before .before .before .before .before .args in
+    sym (ap (λ (m : Named). under m (λ (s : Scheme). openUnder s (a .key .now) (a .nonce .now) (a .header .now) (a .sealed .now) (a .room .now)) (a .room .now)) (sym (c .before .before .scheme-of .ensures) ∙ c .enum-told .given .1))
+
+pub open-spec : {M : Type 1} → statement M
+open-spec =
+    tie.close
+    (tie.spec
+    scheme-of-requires
+    enum-known-named
+    open-under-requires
+    enum-told
+    same-length
+    returns
+    returns-2)

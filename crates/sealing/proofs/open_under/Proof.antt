@@ -1,0 +1,96 @@
+-- `sealing::open_under` meets its contract: refused by a check, done, or forged and cleared. Assumes nothing.
+use mathlib.Core.Path.{refl, sym, _∙_}
+use native.Mathlib.Omega.{arith}
+use lib.ListN.{length}
+use Rattle.walks.proofs.Places.{block-most}
+use borrow.Author.Tests.{ltb-false}
+use Rattle.sealing.proofs.Passed.{check-passed, check-long}
+use Rattle.sealing.proofs.Answers.{key-whole, open-refuses, open-does, open-forges}
+use borrow.Author.Tests.{ltb-false}
+use Rattle.sealing.proofs.Passed.{check-passed, check-long}
+use Rattle.sealing.proofs.Answers.{key-whole, open-refuses, open-does, open-forges}
+use borrow.Author.Tests.{ltb-false}
+use Rattle.sealing.proofs.Passed.{check-passed, check-long}
+use Rattle.sealing.proofs.Answers.{key-whole, open-refuses, open-does, open-forges}
+use borrow.Author.Tests.{ltb-false}
+use Rattle.sealing.proofs.Passed.{check-passed, check-long}
+use Rattle.sealing.proofs.Answers.{key-whole, open-refuses, open-does, open-forges}
+use borrow.Author.Needs.{needs}
+use Rattle.sealing.proofs.open_under.Statement.{statement}
+use Rattle.sealing.proofs.open_under.Tie as tie
+
+block-of-requires : tie.Need-block-of-requires
+block-of-requires c κs = search needs
+
+body-of-requires : tie.Need-body-of-requires
+body-of-requires c κs = search needs
+
+check-requires : tie.Need-check-requires
+check-requires c κs = search needs
+
+returns : tie.Need-returns
+returns c = 
+    let a = c .before .before .before .before .before .before .before .before .before .args in
+    open-refuses (a .s) (a .key .now) (a .nonce .now) (a .header .now) _ (c .before .before .before .block-of .ensures) _ (a .sealed .now) (a .room .now) _ _ (c .before .before .body-of .ensures) refl (c .before .check .ensures) (c .if1 .taken)
+
+front-requires : tie.Need-front-requires
+front-requires c κs = 
+    let a = c .before .before .before .before .before .before .before .before .before .args in
+    let p = check-passed (a .s) _ _ _ _ _ _ _ (sym (c .before .check .ensures) ∙ c .if1 .left) in
+    (omega arith, omega (arith, p .key-is, c .before .before .before .before .before .before .before .before .before .pre .key))
+
+open-requires : tie.Need-open-requires
+open-requires c κs = 
+    let a = c .before .before .before .before .before .before .before .before .before .before .before .args in
+    let p = check-passed (a .s) _ _ _ _ _ _ _ (sym (c .before .before .before .check .ensures) ∙ c .before .before .if1 .left) in
+    let q = ltb-false (length (a .sealed .now)) (c .before .before .before .before .before .block-of .result) (check-long (a .s) _ _ _ _ _ _ _ (sym (c .before .before .before .check .ensures) ∙ c .before .before .if1 .left)) in (
+      omega (arith, p .nonce-is, c .before .before .before .before .before .before .before .before .before .before .before .pre .nonce),
+      omega (arith, p .header-fits, c .before .before .before .before .before .before .before .before .before .before .before .pre .header),
+      omega (arith, p .body-fits, c .before .before .before .before .before .before .before .before .before .before .before .pre .body, c .before .before .before .before .body-of .ensures, q, c .before .before .before .before .before .block-of .ensures, block-most (a .s .cipher)),
+      omega (arith, q, c .before .before .before .before .before .block-of .ensures),
+      omega (arith, p .room-fits, c .before .before .before .before .body-of .ensures, q, c .before .before .before .before .before .block-of .ensures),
+    )
+
+same-length : tie.Need-same-length
+same-length c = search needs
+
+returns-2 : tie.Need-returns-2
+returns-2 c = 
+    let a = c .before .before .before .before .before .before .before .before .before .before .before .before .before .before .before .args in
+    let p = check-passed (a .s) _ _ _ _ _ _ _ (sym (c .before .before .before .before .before .before .before .check .ensures) ∙ c .before .before .before .before .before .before .if1 .left) in
+    open-does (a .s) (a .key .now) (a .nonce .now) (a .header .now) _ (c .before .before .before .before .before .before .before .before .before .block-of .ensures) _ (a .sealed .now) (a .room .now) _ _ (c .before .before .before .before .before .before .before .before .body-of .ensures) refl (c .before .before .before .before .before .before .before .check .ensures)
+    (c .before .before .before .before .before .before .if1 .left) _ (key-whole (a .key .now) _ (omega (arith, p .key-is, c .before .before .before .before .before .before .before .before .before .before .before .before .before .before .before .pre .key)) (c .before .before .before .before .before .front .ensures)) _ _
+    (c .before .before .before .«open» .ensures .0) (c .before .before .before .«open» .ensures .1 .0) (c .if2 .taken)
+
+clear-requires : tie.Need-clear-requires
+clear-requires c κs = 
+    let a = c .before .before .before .before .before .before .before .before .before .before .before .before .before .before .before .before .args in
+    let p = check-passed (a .s) _ _ _ _ _ _ _ (sym (c .before .before .before .before .before .before .before .before .check .ensures) ∙ c .before .before .before .before .before .before .before .if1 .left) in
+    omega arith
+
+same-length-2 : tie.Need-same-length-2
+same-length-2 c = search needs
+
+returns-3 : tie.Need-returns-3
+returns-3 c = 
+    let a = c .before .before .before .before .before .before .before .before .before .before .before .before .before .before .before .before .before .before .before .args in
+    let p = check-passed (a .s) _ _ _ _ _ _ _ (sym (c .before .before .before .before .before .before .before .before .before .before .before .check .ensures) ∙ c .before .before .before .before .before .before .before .before .before .before .if1 .left) in
+    open-forges (a .s) (a .key .now) (a .nonce .now) (a .header .now) _ (c .before .before .before .before .before .before .before .before .before .before .before .before .before .block-of .ensures) _ (a .sealed .now) (a .room .now) _ _ (c .before .before .before .before .before .before .before .before .before .before .before .before .body-of .ensures) refl (c .before .before .before .before .before .before .before .before .before .before .before .check .ensures)
+    (c .before .before .before .before .before .before .before .before .before .before .if1 .left) _ (key-whole (a .key .now) _ (omega (arith, p .key-is, c .before .before .before .before .before .before .before .before .before .before .before .before .before .before .before .before .before .before .before .pre .key)) (c .before .before .before .before .before .before .before .before .before .front .ensures)) _ _
+    (c .before .before .before .before .before .before .before .«open» .ensures .0) (c .before .before .before .before .before .before .before .«open» .ensures .1 .0) (c .before .before .before .before .if2 .left) _ (c .before .before .before .before .before .before .before .«open» .ensures .1 .1) (c .before .before .clear .ensures)
+
+pub open-under-spec : {M : Type 1} → statement M
+open-under-spec =
+    tie.close
+    (tie.spec
+    block-of-requires
+    body-of-requires
+    check-requires
+    returns
+    front-requires
+    open-requires
+    same-length
+    returns-2
+    clear-requires
+    same-length-2
+    returns-3)

@@ -1,0 +1,25 @@
+-- `sealing::schemes::scheme_of` meets its contract: test by test. Assumes nothing.
+use mathlib.Core.Path.{sym}
+use borrow.Author.Tests.{eq-eqb, ne-eqb}
+use Rattle.sealing.specs.Schemes.{schemeOf}
+use Rattle.sealing.proofs.schemes.scheme_of.Statement.{statement}
+use Rattle.sealing.proofs.schemes.scheme_of.Tie as tie
+
+returns : tie.Need-returns
+unfolding schemeOf
+returns c = simp (eq-eqb _ _ (c .if1 .taken))
+
+returns-2 : tie.Need-returns-2
+unfolding schemeOf
+returns-2 c = simp (ne-eqb _ _ (c .before .if1 .left), eq-eqb _ _ (c .if2 .taken))
+
+returns-3 : tie.Need-returns-3
+unfolding schemeOf
+returns-3 c = simp (ne-eqb _ _ (c .before .before .if1 .left), ne-eqb _ _ (c .before .if2 .left), eq-eqb _ _ (c .if3 .taken))
+
+returns-4 : tie.Need-returns-4
+unfolding schemeOf
+returns-4 c = simp (ne-eqb _ _ (c .before .before .if1 .left), ne-eqb _ _ (c .before .if2 .left), ne-eqb _ _ (c .if3 .left))
+
+pub scheme-of-spec : {M : Type 1} → statement M
+scheme-of-spec = tie.close (tie.spec returns returns-2 returns-3 returns-4)

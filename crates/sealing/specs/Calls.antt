@@ -1,0 +1,84 @@
+-- What seal and open tell their caller, and what the room then holds, for every input (01, What a caller is told).
+-- Assumes nothing.
+use Prim.Native.Nat.{ℕ, zero, suc, _+_, _-_}
+use mathlib.Core.Bool.{Bool, false}
+use mathlib.Core.List.{List, _++_}
+use lib.Dec.{ltb}
+use lib.ListN.{length, drop, replicate}
+use Rattle.ciphers.specs.Ciphers.{blockOf}
+use Rattle.modes.specs.Blocks.{pick}
+use Rattle.modes.specs.Mode.{Opened, sealRun, openRun}
+use Rattle.steps.specs.Modes.{modeOf}
+use Rattle.sealing.specs.declared.Answer.{Answer}
+use Rattle.sealing.specs.declared.schemes.Scheme.{Scheme}
+use Rattle.sealing.specs.declared.schemes.Named.{Named}
+use Rattle.sealing.specs.declared.schemes.Named.the-variants.{Known, Unknown}
+use Rattle.sealing.specs.Schemes.{schemeOf}
+use Rattle.sealing.specs.Checks.{checkOf}
+
+-- number, length and room
+pub record Told : Type 0 where
+  pub number : ℕ
+  pub length : ℕ
+  pub room : List ℕ
+
+abbrev pub told : Answer → List ℕ → Told
+told a room = record { number = a .number; length = a .length; room = room }
+
+-- 1 to 5: the room unchanged
+abbrev pub refused : ℕ → List ℕ → Told
+refused number room = record { number = number; length = 0; room = room }
+
+-- 0: an output of l bytes at the front, the rest unchanged
+abbrev pub done : ℕ → List ℕ → List ℕ → Told
+done l out room = record { number = 0; length = l; room = out ++ drop l room }
+
+-- 6: zeros where a body of l bytes would have been, the rest unchanged
+abbrev pub forged : ℕ → List ℕ → Told
+forged l room = record { number = 6; length = 0; room = replicate l 0 ++ drop l room }
+
+-- what an open of a body of l bytes answers where the checks passed
+abbrev pub judged : Opened → ℕ → List ℕ → Told
+judged o l room = pick (o .authentic) (done l (o .body) room) (forged l room)
+
+-- what is done where the checks answered 0, and else the refusal
+abbrev pub passed : ℕ → Told → List ℕ → Told
+passed zero t room = t
+passed (suc k) t room = refused (suc k) room
+
+-- under the scheme that a number names, or 1
+abbrev pub under : Named → (Scheme → Told) → List ℕ → Told
+under (Known s) f room = f s
+under Unknown f room = refused 1 room
+
+-- ---- under a scheme, by its mode
+
+abbrev pub sealed : Scheme → (key nonce header body : List ℕ) → List ℕ
+sealed s key nonce header body = sealRun (blockOf (s .cipher)) (modeOf (s .kind) (s .cipher) key nonce) header body
+
+abbrev pub opened : Scheme → (key nonce header run : List ℕ) → Opened
+opened s key nonce header run = openRun (blockOf (s .cipher)) (modeOf (s .kind) (s .cipher) key nonce) header run
+
+-- a sealed run is a block longer than its body
+unfoldable pub sealUnder : Scheme → (key nonce header body room : List ℕ) → Told
+sealUnder s key nonce header body room =
+    let n = blockOf (s .cipher) in
+    passed (checkOf s (length key) (length nonce) (length header) (length body) false n (length room))
+    (done (length body + n) (sealed s key nonce header body) room)
+    room
+
+unfoldable pub openUnder : Scheme → (key nonce header run room : List ℕ) → Told
+openUnder s key nonce header run room =
+    let n = blockOf (s .cipher) in
+    let l = length run - n in
+    passed (checkOf s (length key) (length nonce) (length header) l (ltb (length run) n) 0 (length room))
+    (judged (opened s key nonce header run) l room)
+    room
+
+-- ---- the calls
+
+unfoldable pub sealOf : ℕ → (key nonce header body room : List ℕ) → Told
+sealOf scheme key nonce header body room = under (schemeOf scheme) (λ s. sealUnder s key nonce header body room) room
+
+unfoldable pub openOf : ℕ → (key nonce header run room : List ℕ) → Told
+openOf scheme key nonce header run room = under (schemeOf scheme) (λ s. openUnder s key nonce header run room) room

@@ -1,0 +1,5 @@
+pub mod Calls
+pub mod Checks
+pub mod Demands
+pub mod Schemes
+pub mod View

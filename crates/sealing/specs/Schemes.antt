@@ -1,0 +1,34 @@
+-- The schemes: their ciphers, modes, sizes and limits (01, the desk's document 01, the table of schemes). Assumes nothing.
+use mathlib.Core.Path.{_≡_}
+use Prim.Native.Nat.{ℕ, _+_, _≤_}
+use lib.Dec.{eqb}
+use Rattle.ciphers.specs.declared.Cipher.the-variants.{N64T192, N128T256}
+use Rattle.ciphers.specs.Ciphers.{blockOf}
+use Rattle.modes.specs.Blocks.{pick}
+use Rattle.steps.specs.declared.Kind.the-variants.{Paef, Saef}
+use Rattle.steps.specs.Modes.{tailOf}
+use Rattle.sealing.specs.declared.schemes.Scheme.{Scheme}
+use Rattle.sealing.specs.declared.schemes.Named.{Named}
+use Rattle.sealing.specs.declared.schemes.Named.the-variants.{Known, Unknown}
+
+-- a header and a body have at most 8,191 blocks (01, What a caller is told, 3)
+abbrev pub scheme1 : Scheme
+scheme1 = record { cipher = N64T192; kind = Paef; key = 16; nonce = 6; header = 65528; body = 65528 }
+
+abbrev pub scheme2 : Scheme
+scheme2 = record { cipher = N128T256; kind = Paef; key = 16; nonce = 14; header = 131056; body = 131056 }
+
+abbrev pub scheme3 : Scheme
+scheme3 = record { cipher = N128T256; kind = Saef; key = 16; nonce = 15; header = 131056; body = 131056 }
+
+-- the scheme that a number names
+unfoldable pub schemeOf : ℕ → Named
+schemeOf number =
+    pick (eqb number 1) (Known scheme1) (pick (eqb number 2) (Known scheme2) (pick (eqb number 3) (Known scheme3) Unknown))
+
+-- what the walks ask of a scheme: a key of sixteen bytes, a nonce that fills the tweak, limits that are numbers of 32 bits
+pub record Fits (s : Scheme) : Type 0 where
+  pub key : s .key ≡ 16
+  pub nonce : s .nonce + tailOf (s .kind) ≡ blockOf (s .cipher)
+  pub header : s .header ≤ 4294967279
+  pub body : s .body ≤ 4294967279

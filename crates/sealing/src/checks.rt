@@ -1,0 +1,42 @@
+// The checks, on lengths alone, in the one order that holds.
+use crate::schemes::Scheme;
+ghost use mathlib.Core.Path.{_≡_};
+ghost use Prim.Native.Nat.{_≤_};
+ghost use Rattle.sealing.specs.Schemes.{Fits};
+ghost use Rattle.sealing.specs.Checks.{checkOf};
+
+// The number of the first check that applies, or 0. short: the run is shorter than a block; more: by how much the output is
+// longer than the body.
+pub fn check(
+    s: Scheme,
+    key: usize,
+    nonce: usize,
+    header: usize,
+    body: usize,
+    short: bool,
+    more: usize,
+    room: usize,
+) -> u32
+    requires { ⌜ Fits s × (more ≤ 16) ⌝ }
+    ensures { λ r. ⌜ r ≡ checkOf s key nonce header body short more room ⌝ }
+{
+    if key != s.key {
+        return 2;
+    }
+    if nonce != s.nonce {
+        return 2;
+    }
+    if s.header < header {
+        return 3;
+    }
+    if s.body < body {
+        return 3;
+    }
+    if short {
+        return 4;
+    }
+    if room < body + more {
+        return 5;
+    }
+    0
+}

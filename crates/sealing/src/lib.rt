@@ -1,0 +1,165 @@
+// Seal, open and view.
+pub mod checks;
+pub mod schemes;
+
+use blocks::clear;
+use blocks::front;
+use checks::check;
+use schemes::Named;
+use schemes::Scheme;
+use schemes::scheme_of;
+use walks::whole;
+ghost use mathlib.Core.Path.{_≡_};
+ghost use Prim.Native.Nat.{_-_};
+ghost use Rattle.sealing.specs.Schemes.{Fits};
+ghost use Rattle.sealing.specs.Calls.{told, sealUnder, openUnder, sealOf, openOf};
+ghost use Rattle.sealing.specs.View.{viewOf};
+
+// What a caller is told: the number, and the length of what stands at the front of the room.
+pub struct Answer {
+    pub number: u32,
+    pub length: usize,
+}
+
+fn seal_under(
+    s: Scheme,
+    key: &[u8],
+    nonce: &[u8],
+    header: &[u8],
+    body: &[u8],
+    room: &mut [u8],
+) -> Answer
+    requires { ⌜ Fits s ⌝ }
+    ensures { λ r. ⌜ told r (now (room .exit)) ≡ sealUnder s (now (key .entry)) (now (nonce .entry)) (now (header .entry)) (now (body .entry)) (now (room .entry)) ⌝ }
+{
+    let c = s.cipher;
+    let k = s.kind;
+    let n = ciphers::block_of(c);
+    let number = check(
+        s,
+        key.len(),
+        nonce.len(),
+        header.len(),
+        body.len(),
+        false,
+        n,
+        room.len(),
+    );
+    if number != 0 {
+        return Answer { number, length: 0 };
+    }
+    whole::seal(c, k, front(key, 16), nonce, header, body, room);
+    Answer {
+        number: 0,
+        length: body.len() + n,
+    }
+}
+
+// Seals a body: the sealed run, a block longer, at the front of the room. Refused with 1 (scheme), 2 (key or nonce length), 3
+// (header or body too long) or 5 (room too short), the room unchanged.
+pub fn seal(
+    scheme: u32,
+    key: &[u8],
+    nonce: &[u8],
+    header: &[u8],
+    body: &[u8],
+    room: &mut [u8],
+) -> Answer
+    ensures { λ r. ⌜ told r (now (room .exit)) ≡ sealOf scheme (now (key .entry)) (now (nonce .entry)) (now (header .entry)) (now (body .entry)) (now (room .entry)) ⌝ }
+{
+    let named = scheme_of(scheme);
+    match named {
+        Named::Known(s) => seal_under(s, key, nonce, header, body, room),
+        Named::Unknown => Answer {
+            number: 1,
+            length: 0,
+        },
+    }
+}
+
+// How much longer a run is than a block.
+fn body_of(run: usize, n: usize) -> usize
+    ensures { λ r. ⌜ r ≡ run - n ⌝ }
+{
+    if run < n {
+        return 0;
+    }
+    run - n
+}
+
+fn open_under(
+    s: Scheme,
+    key: &[u8],
+    nonce: &[u8],
+    header: &[u8],
+    sealed: &[u8],
+    room: &mut [u8],
+) -> Answer
+    requires { ⌜ Fits s ⌝ }
+    ensures { λ r. ⌜ told r (now (room .exit)) ≡ openUnder s (now (key .entry)) (now (nonce .entry)) (now (header .entry)) (now (sealed .entry)) (now (room .entry)) ⌝ }
+{
+    let c = s.cipher;
+    let k = s.kind;
+    let n = ciphers::block_of(c);
+    let l = body_of(sealed.len(), n);
+    let short = sealed.len() < n;
+    let number = check(
+        s,
+        key.len(),
+        nonce.len(),
+        header.len(),
+        l,
+        short,
+        0,
+        room.len(),
+    );
+    if number != 0 {
+        return Answer { number, length: 0 };
+    }
+    if whole::open(c, k, front(key, 16), nonce, header, sealed, room) {
+        return Answer {
+            number: 0,
+            length: l,
+        };
+    }
+    clear(room, l);
+    Answer {
+        number: 6,
+        length: 0,
+    }
+}
+
+// Opens a sealed run: its body, a block shorter, at the front of the room. Refused with 1, 2, 3, 4 (run shorter than a block) or
+// 5, the room unchanged, or with 6 (not authentic), zeros where the body would have been.
+pub fn open(
+    scheme: u32,
+    key: &[u8],
+    nonce: &[u8],
+    header: &[u8],
+    sealed: &[u8],
+    room: &mut [u8],
+) -> Answer
+    ensures { λ r. ⌜ told r (now (room .exit)) ≡ openOf scheme (now (key .entry)) (now (nonce .entry)) (now (header .entry)) (now (sealed .entry)) (now (room .entry)) ⌝ }
+{
+    let named = scheme_of(scheme);
+    match named {
+        Named::Known(s) => open_under(s, key, nonce, header, sealed, room),
+        Named::Unknown => Answer {
+            number: 1,
+            length: 0,
+        },
+    }
+}
+
+// The part of the room that an answer speaks of; after a refusal, or with a length above the room's, the empty part.
+pub fn view(number: u32, length: usize, room: &mut [u8]) -> &mut [u8]
+    ensures { λ r. ⌜ now r ≡ viewOf number length (now (room .entry)) ⌝ }
+{
+    if number != 0 {
+        return &mut room[..0];
+    }
+    if room.len() < length {
+        return &mut room[..0];
+    }
+    &mut room[..length]
+}
