@@ -1,7 +1,8 @@
 // The entry points for C: plain numbers and byte runs. The header include/auraski.h tells a C programmer what each call means.
 ghost use mathlib.Core.Path.{_≡_};
 ghost use Rattle.forkskinny.specs.Calls.{forkOf, unforkOf};
-ghost use Rattle.auraski.specs.Entries.{forkTold, unforkTold};
+ghost use Rattle.sealing.specs.Calls.{sealOf, openOf};
+ghost use Rattle.auraski.specs.Entries.{forkTold, unforkTold, answered};
 
 // ForkSkinny forward: the number, and both halves written.
 #[no_mangle]
@@ -44,4 +45,40 @@ pub extern "C" fn auraski_unfork(
     *input = a;
     *other = b;
     f.number
+}
+
+// Seals a body: the number, and the length of the sealed run at the front of the room written.
+#[no_mangle]
+pub extern "C" fn auraski_seal(
+    scheme: u32,
+    key: &[u8],
+    nonce: &[u8],
+    header: &[u8],
+    body: &[u8],
+    room: &mut [u8],
+    length: &mut usize,
+) -> u32
+    ensures { λ r. ⌜ answered r (now (length .exit)) (now (room .exit)) ≡ sealOf scheme (now (key .entry)) (now (nonce .entry)) (now (header .entry)) (now (body .entry)) (now (room .entry)) ⌝ }
+{
+    let a = sealing::seal(scheme, key, nonce, header, body, room);
+    *length = a.length;
+    a.number
+}
+
+// Opens a sealed run: the number, and the length of the body at the front of the room written.
+#[no_mangle]
+pub extern "C" fn auraski_open(
+    scheme: u32,
+    key: &[u8],
+    nonce: &[u8],
+    header: &[u8],
+    sealed: &[u8],
+    room: &mut [u8],
+    length: &mut usize,
+) -> u32
+    ensures { λ r. ⌜ answered r (now (length .exit)) (now (room .exit)) ≡ openOf scheme (now (key .entry)) (now (nonce .entry)) (now (header .entry)) (now (sealed .entry)) (now (room .entry)) ⌝ }
+{
+    let a = sealing::open(scheme, key, nonce, header, sealed, room);
+    *length = a.length;
+    a.number
 }

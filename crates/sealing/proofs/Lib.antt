@@ -1,3 +1,7 @@
+mod Admitted
 mod Answers
+pub mod Demands
+mod Exactly
 pub mod Passed
 pub mod Table
+mod Ways

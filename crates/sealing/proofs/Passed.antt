@@ -12,6 +12,7 @@ use Rattle.sealing.specs.declared.schemes.Scheme.{Scheme}
 use Rattle.sealing.specs.Checks.{checkOf}
 use Rattle.sealing.specs.Calls.{Told, refused, passed}
 
+-- `more` and `room` as in checkOf: the output is `more` bytes longer than the body
 pub record Passed (s : Scheme) (key nonce header body more room : ℕ) : Type 0 where
   pub key-is : key ≡ s .key
   pub nonce-is : nonce ≡ s .nonce
@@ -21,6 +22,7 @@ pub record Passed (s : Scheme) (key nonce header body more room : ℕ) : Type 0 
 
 -- ---- one check, and those behind it
 
+-- its number is not 0, so that where 0 is answered it did not apply
 past : (b : Bool) (k rest : ℕ) → pick b (suc k) rest ≡ 0 → (b ≡ false) × (rest ≡ 0)
 past true k rest e = absurd (omega arith)
 past false k rest e = (refl, e)
@@ -29,7 +31,7 @@ most : (b : Bool) (k rest : ℕ) → k ≤ 5 → rest ≤ 5 → pick b k rest �
 most true k rest h j = h
 most false k rest h j = j
 
--- ---- all of them
+-- ---- all of them, in the order of checkOf
 
 module _ (s : Scheme) (key nonce header body : ℕ) (short : Bool) (more room : ℕ) where
   through : checkOf s key nonce header body short more room ≡ 0 → Passed s key nonce header body more room × (short ≡ false)
@@ -79,7 +81,14 @@ module _ (s : Scheme) (key nonce header body : ℕ) (short : Bool) (more room : 
       (most short 4 _ (omega arith)
       (most (ltb room (body + more)) 5 0 (omega arith) (omega arith))))))
 
--- a number other than 0 is told
+-- ---- what is told then
+
+-- 0 is told only where the checks answered it
+pub was-passed : (k : ℕ) (t : Told) (room : List ℕ) → passed k t room .number ≡ 0 → k ≡ 0
+was-passed zero t room e = refl
+was-passed (suc k) t room e = absurd (omega arith)
+
+-- another number is told
 pub not-passed : (k : ℕ) (t : Told) (room : List ℕ) → (k ≡ 0 → ⊥) → passed k t room ≡ refused k room
 not-passed zero t room h = absurd (h refl)
 not-passed (suc k) t room h = refl

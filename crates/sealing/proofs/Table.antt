@@ -1,5 +1,5 @@
--- The table of schemes: every scheme that a number names fits the walks, a call under a named scheme is the call under that
--- scheme, and no other number names one. Assumes nothing.
+-- The table of schemes: every scheme that a number names fits the walks, a call by its number is the call under it, and numbers
+-- other than 1, 2 and 3 name none. Assumes nothing.
 use mathlib.Core.Path.{_≡_, refl, ap, subst}
 use Prim.Native.Nat.{ℕ}
 use native.Mathlib.Omega.{arith}
@@ -16,6 +16,7 @@ use Rattle.sealing.specs.Calls.{under, sealUnder, openUnder, sealOf, ope
 
 -- ---- what is named fits
 
+-- of whatever a number names, so that the tests of the number need not be looked at
 abbrev Fitting : Named → Type 0
 Fitting (Known s) = Fits s
 Fitting Unknown = Unit
@@ -42,7 +43,7 @@ all-fit number =
 pub named-fits : (number : ℕ) (s : Scheme) → schemeOf number ≡ Known s → Fits s
 named-fits number s e = subst Fitting e (all-fit number)
 
--- ---- the calls under a named scheme
+-- ---- the calls by a number that names a scheme
 
 module _ (number : ℕ) (s : Scheme) (known : schemeOf number ≡ Known s) (key nonce header input room : List ℕ) where
   pub seal-known : sealOf number key nonce header input room ≡ sealUnder s key nonce header input room

@@ -1,6 +1,11 @@
 //! The library through its C entry points: the only `unsafe` of this package.
 
+use crate::sealing::Answer;
+
 type Block = [u8; 16];
+
+/// What the length holds before a call, so that one not written is seen.
+const UNWRITTEN: usize = usize::MAX;
 
 extern "C" {
     fn auraski_fork(
@@ -22,6 +27,36 @@ extern "C" {
         want: u32,
         input: *mut u8,
         other: *mut u8,
+    ) -> u32;
+
+    fn auraski_seal(
+        scheme: u32,
+        key: *const u8,
+        key_len: usize,
+        nonce: *const u8,
+        nonce_len: usize,
+        header: *const u8,
+        header_len: usize,
+        body: *const u8,
+        body_len: usize,
+        room: *mut u8,
+        room_len: usize,
+        length: *mut usize,
+    ) -> u32;
+
+    fn auraski_open(
+        scheme: u32,
+        key: *const u8,
+        key_len: usize,
+        nonce: *const u8,
+        nonce_len: usize,
+        header: *const u8,
+        header_len: usize,
+        run: *const u8,
+        run_len: usize,
+        room: *mut u8,
+        room_len: usize,
+        length: *mut usize,
     ) -> u32;
 }
 
@@ -73,6 +108,68 @@ pub fn unfork(
             other.as_mut_ptr(),
         )
     }
+}
+
+/// Seals a body into the room. A run without a byte has a pointer too, which
+/// is not null.
+pub fn seal(
+    scheme: u32,
+    key: &[u8],
+    nonce: &[u8],
+    header: &[u8],
+    body: &[u8],
+    room: &mut [u8],
+) -> Answer {
+    let mut length = UNWRITTEN;
+    // Every run outlives the call and is as long as the number behind it
+    // says; room and length are written by this call alone.
+    let number = unsafe {
+        auraski_seal(
+            scheme,
+            key.as_ptr(),
+            key.len(),
+            nonce.as_ptr(),
+            nonce.len(),
+            header.as_ptr(),
+            header.len(),
+            body.as_ptr(),
+            body.len(),
+            room.as_mut_ptr(),
+            room.len(),
+            &mut length,
+        )
+    };
+    Answer { number, length }
+}
+
+/// Opens a sealed run into the room.
+pub fn open(
+    scheme: u32,
+    key: &[u8],
+    nonce: &[u8],
+    header: &[u8],
+    run: &[u8],
+    room: &mut [u8],
+) -> Answer {
+    let mut length = UNWRITTEN;
+    // As above.
+    let number = unsafe {
+        auraski_open(
+            scheme,
+            key.as_ptr(),
+            key.len(),
+            nonce.as_ptr(),
+            nonce.len(),
+            header.as_ptr(),
+            header.len(),
+            run.as_ptr(),
+            run.len(),
+            room.as_mut_ptr(),
+            room.len(),
+            &mut length,
+        )
+    };
+    Answer { number, length }
 }
 
 /// Hides where a value comes from, so that no call of the benchmark is worked

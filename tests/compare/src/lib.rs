@@ -1,15 +1,22 @@
-//! The second program: ForkSkinny-64-192 and ForkSkinny-128-256 written once
-//! more, from the documents alone, to be compared with the library. Plain
-//! portable code on flat arrays of cells; it shares no line with the library.
+//! The second program: ForkSkinny-64-192 and ForkSkinny-128-256, and the three
+//! sealing schemes over them, written once more, from the documents alone, to
+//! be compared with the library. Plain portable code on flat arrays of cells;
+//! it shares no line with the library.
 //!
 //! Documents are named as in the comments: "document 01" is the scope paper,
 //! "001" is the paper Forkcipher (extended version).
 
+pub mod blocks;
 pub mod calls;
 pub mod cells;
+pub mod forged;
 pub mod forkskinny;
+pub mod paef;
 pub mod random;
 pub mod rounds;
+pub mod saef;
+pub mod schemes;
+pub mod sealing;
 pub mod skinny;
 pub mod tweakey;
 

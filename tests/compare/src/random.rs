@@ -24,4 +24,14 @@ impl Random {
         block[8..].copy_from_slice(&self.number().to_be_bytes());
         block
     }
+
+    /// A number below `limit`. That some come a little more often than others
+    /// does not matter here.
+    pub fn below(&mut self, limit: usize) -> usize {
+        (self.number() % limit as u64) as usize
+    }
+
+    pub fn bytes(&mut self, length: usize) -> Vec<u8> {
+        (0..length).map(|_| self.number() as u8).collect()
+    }
 }

@@ -29,18 +29,18 @@ check-requires : tie.Need-check-requires
 check-requires c κs = search needs
 
 returns : tie.Need-returns
-returns c = 
+returns c =
     let a = c .before .before .before .before .before .before .before .before .before .args in
     open-refuses (a .s) (a .key .now) (a .nonce .now) (a .header .now) _ (c .before .before .before .block-of .ensures) _ (a .sealed .now) (a .room .now) _ _ (c .before .before .body-of .ensures) refl (c .before .check .ensures) (c .if1 .taken)
 
 front-requires : tie.Need-front-requires
-front-requires c κs = 
+front-requires c κs =
     let a = c .before .before .before .before .before .before .before .before .before .args in
     let p = check-passed (a .s) _ _ _ _ _ _ _ (sym (c .before .check .ensures) ∙ c .if1 .left) in
     (omega arith, omega (arith, p .key-is, c .before .before .before .before .before .before .before .before .before .pre .key))
 
 open-requires : tie.Need-open-requires
-open-requires c κs = 
+open-requires c κs =
     let a = c .before .before .before .before .before .before .before .before .before .before .before .args in
     let p = check-passed (a .s) _ _ _ _ _ _ _ (sym (c .before .before .before .check .ensures) ∙ c .before .before .if1 .left) in
     let q = ltb-false (length (a .sealed .now)) (c .before .before .before .before .before .block-of .result) (check-long (a .s) _ _ _ _ _ _ _ (sym (c .before .before .before .check .ensures) ∙ c .before .before .if1 .left)) in (
@@ -55,7 +55,7 @@ same-length : tie.Need-same-length
 same-length c = search needs
 
 returns-2 : tie.Need-returns-2
-returns-2 c = 
+returns-2 c =
     let a = c .before .before .before .before .before .before .before .before .before .before .before .before .before .before .before .args in
     let p = check-passed (a .s) _ _ _ _ _ _ _ (sym (c .before .before .before .before .before .before .before .check .ensures) ∙ c .before .before .before .before .before .before .if1 .left) in
     open-does (a .s) (a .key .now) (a .nonce .now) (a .header .now) _ (c .before .before .before .before .before .before .before .before .before .block-of .ensures) _ (a .sealed .now) (a .room .now) _ _ (c .before .before .before .before .before .before .before .before .body-of .ensures) refl (c .before .before .before .before .before .before .before .check .ensures)
@@ -63,7 +63,7 @@ returns-2 c =
     (c .before .before .before .«open» .ensures .0) (c .before .before .before .«open» .ensures .1 .0) (c .if2 .taken)
 
 clear-requires : tie.Need-clear-requires
-clear-requires c κs = 
+clear-requires c κs =
     let a = c .before .before .before .before .before .before .before .before .before .before .before .before .before .before .before .before .args in
     let p = check-passed (a .s) _ _ _ _ _ _ _ (sym (c .before .before .before .before .before .before .before .before .check .ensures) ∙ c .before .before .before .before .before .before .before .if1 .left) in
     omega arith
@@ -72,7 +72,7 @@ same-length-2 : tie.Need-same-length-2
 same-length-2 c = search needs
 
 returns-3 : tie.Need-returns-3
-returns-3 c = 
+returns-3 c =
     let a = c .before .before .before .before .before .before .before .before .before .before .before .before .before .before .before .before .before .before .before .args in
     let p = check-passed (a .s) _ _ _ _ _ _ _ (sym (c .before .before .before .before .before .before .before .before .before .before .before .check .ensures) ∙ c .before .before .before .before .before .before .before .before .before .before .if1 .left) in
     open-forges (a .s) (a .key .now) (a .nonce .now) (a .header .now) _ (c .before .before .before .before .before .before .before .before .before .before .before .before .before .block-of .ensures) _ (a .sealed .now) (a .room .now) _ _ (c .before .before .before .before .before .before .before .before .before .before .before .before .body-of .ensures) refl (c .before .before .before .before .before .before .before .before .before .before .before .check .ensures)

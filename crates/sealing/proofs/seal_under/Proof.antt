@@ -12,26 +12,25 @@ block-of-requires : tie.Need-block-of-requires
 block-of-requires c κs = search needs
 
 check-requires : tie.Need-check-requires
-check-requires c κs = 
+check-requires c κs =
     let a = c .before .before .before .before .before .before .args in
     (c .before .before .before .before .before .before .pre, omega (arith, c .block-of .ensures, block-most (a .s .cipher)))
 
 returns : tie.Need-returns
-returns c = 
+returns c =
     let a = c .before .before .before .before .before .before .before .before .args in
     seal-refuses (a .s) (a .key .now) (a .nonce .now) (a .header .now) _ (c .before .before .block-of .ensures) _ (a .body .now) _ (c .before .check .ensures) (c .if1 .taken)
 
 front-requires : tie.Need-front-requires
-front-requires c κs = 
+front-requires c κs =
     let a = c .before .before .before .before .before .before .before .before .args in
     let p = check-passed (a .s) _ _ _ _ _ _ _ (sym (c .before .check .ensures) ∙ c .if1 .left) in
     (omega arith, omega (arith, p .key-is, c .before .before .before .before .before .before .before .before .pre .key))
 
 seal-requires : tie.Need-seal-requires
-seal-requires c κs = 
+seal-requires c κs =
     let a = c .before .before .before .before .before .before .before .before .before .before .args in
-    let p = check-passed (a .s) _ _ _ _ _ _ _ (sym (c .before .before .before .check .ensures) ∙ c .before .before .if1 .left) in
-    (
+    let p = check-passed (a .s) _ _ _ _ _ _ _ (sym (c .before .before .before .check .ensures) ∙ c .before .before .if1 .left) in (
       omega (arith, p .nonce-is, c .before .before .before .before .before .before .before .before .before .before .pre .nonce),
       omega (arith, p .header-fits, c .before .before .before .before .before .before .before .before .before .before .pre .header),
       omega (arith, p .body-fits, c .before .before .before .before .before .before .before .before .before .before .pre .body),
@@ -39,7 +38,7 @@ seal-requires c κs =
     )
 
 add-t12 : tie.Need-add-t12
-add-t12 c = 
+add-t12 c =
     let a = c .before .before .before .before .before .before .before .before .before .before .before .before .before .args in
     let p = check-passed (a .s) _ _ _ _ _ _ _ (sym (c .before .before .before .before .before .before .check .ensures) ∙ c .before .before .before .before .before .if1 .left) in
     omega (arith, p .body-fits, c .before .before .before .before .before .before .before .before .before .before .before .before .before .pre .body, c .before .before .before .before .before .before .before .block-of .ensures, block-most (a .s .cipher))
@@ -48,7 +47,7 @@ same-length : tie.Need-same-length
 same-length c = search needs
 
 returns-2 : tie.Need-returns-2
-returns-2 c = 
+returns-2 c =
     let a = c .before .before .before .before .before .before .before .before .before .before .before .before .before .args in
     let p = check-passed (a .s) _ _ _ _ _ _ _ (sym (c .before .before .before .before .before .before .check .ensures) ∙ c .before .before .before .before .before .if1 .left) in
     seal-does (a .s) (a .key .now) (a .nonce .now) (a .header .now) _ (c .before .before .before .before .before .before .before .block-of .ensures) _ (a .body .now) (a .room .now) (c .before .before .before .before .before .before .check .ensures) (c .before .before .before .before .before .if1 .left) _ _

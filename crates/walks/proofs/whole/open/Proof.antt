@@ -29,11 +29,10 @@ equal-requires : tie.Need-equal-requires
 equal-requires c κs = search needs
 
 returns : tie.Need-returns
-returns c = 
+returns c =
     let a = c .before .before .before .before .before .before .before .before .before .before .args in
     let n = blockOf (a .c) in
-    let M = modeOf (a .k) (a .c) (a .key) (a .nonce .now) in
-    (
+    let M = modeOf (a .k) (a .c) (a .key) (a .nonce .now) in (
       open-none n M (a .header .now) _ _ _ (c .before .before .before .before .before .block-of .ensures) (c .before .before .before .head .ensures .0) (c .before .before .alone .ensures) (a .run .now) _ (c .before .before .before .before .if1 .taken) (c .equal .ensures),
       (
         open-none-room n M (a .header .now) _ _ _ (c .before .before .before .before .before .block-of .ensures) (c .before .before .before .head .ensures .0) (c .before .before .alone .ensures) (a .run .now) _ (c .before .before .before .before .if1 .taken),
@@ -51,7 +50,7 @@ same-length : tie.Need-same-length
 same-length c = search needs
 
 returns-2 : tie.Need-returns-2
-returns-2 c = 
+returns-2 c =
     let a = c .before .before .before .before .before .before .before .before .before .before .before .args in
     let n = blockOf (a .c) in
     let M = modeOf (a .k) (a .c) (a .key) (a .nonce .now) in

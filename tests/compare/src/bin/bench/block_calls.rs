@@ -1,31 +1,19 @@
-//! How long one block call takes, in the library and in the second program.
-//!
-//!   bench                                  the whole table
-//!   bench count SIDE DIRECTION CIPHER FROM WANT N
-//!                                          N calls of one kind, prints nothing
-//!
-//! SIDE is ours or second, DIRECTION fork or unfork; FROM does not count for
-//! fork. The second form is for counting instructions.
+//! How long one block call takes.
 
+use crate::side::{quickest, Batches, Side};
 use compare::auraski::{self, opaque};
 use compare::calls;
-use std::process::exit;
-use std::time::Instant;
 
 type Block = [u8; 16];
 
-const BATCHES: usize = 500;
-const CALLS_PER_BATCH: u32 = 100;
-
-#[derive(Clone, Copy, PartialEq)]
-enum Side {
-    Ours,
-    Second,
-}
+const BATCHES: Batches = Batches {
+    count: 500,
+    calls: 100,
+};
 
 /// One kind of call; `from` is absent forward.
 #[derive(Clone, Copy)]
-struct Kind {
+pub struct Kind {
     cipher: u32,
     from: Option<u32>,
     want: u32,
@@ -87,7 +75,7 @@ fn call_second(chain: &mut Chain, kind: Kind) -> u32 {
 }
 
 /// A batch of calls; refusals are counted so that a number is never unused.
-fn run(side: Side, kind: Kind, count: u32) -> u32 {
+pub fn run(side: Side, kind: Kind, count: u32) -> u32 {
     let mut chain = Chain::new();
     let mut refused = 0;
     for _ in 0..count {
@@ -98,25 +86,6 @@ fn run(side: Side, kind: Kind, count: u32) -> u32 {
     }
     opaque(chain.block);
     refused
-}
-
-/// Nanoseconds per call in one batch.
-fn time(side: Side, kind: Kind) -> f64 {
-    let start = Instant::now();
-    let refused = run(side, kind, CALLS_PER_BATCH);
-    let spent = start.elapsed().as_nanos() as f64;
-    assert_eq!(refused, 0, "a call of the benchmark was refused");
-    spent / f64::from(CALLS_PER_BATCH)
-}
-
-/// The quickest batch of each side, the two sides taking turns.
-fn quickest(kind: Kind) -> (f64, f64) {
-    let (mut ours, mut second) = (f64::MAX, f64::MAX);
-    for _ in 0..BATCHES {
-        ours = ours.min(time(Side::Ours, kind));
-        second = second.min(time(Side::Second, kind));
-    }
-    (ours, second)
 }
 
 fn name_of(kind: Kind) -> String {
@@ -135,10 +104,10 @@ fn name_of(kind: Kind) -> String {
     }
 }
 
-fn print_table() {
+pub fn print_table() {
     println!(
         "ns per call, the quickest of {} batches of {} calls, the two sides taking turns",
-        BATCHES, CALLS_PER_BATCH
+        BATCHES.count, BATCHES.calls
     );
     println!("second/ours above 1 means that ours is quicker");
     println!(
@@ -149,7 +118,7 @@ fn print_table() {
         for from in [None, Some(0), Some(1)] {
             for want in 0..3 {
                 let kind = Kind { cipher, from, want };
-                let (ours, second) = quickest(kind);
+                let (ours, second) = quickest(BATCHES, |side| run(side, kind, BATCHES.calls));
                 println!(
                     "{:8} {:24} {:10.0} {:10.0} {:12.2}",
                     cipher_name,
@@ -164,14 +133,9 @@ fn print_table() {
 }
 
 /// SIDE DIRECTION CIPHER FROM WANT N.
-fn parse_count(words: &[&str]) -> Option<(Side, Kind, u32)> {
+pub fn parse_count(words: &[&str]) -> Option<(Side, Kind, u32)> {
     let (side, direction, numbers) = match words {
         [side, direction, numbers @ ..] if numbers.len() == 4 => (*side, *direction, numbers),
-        _ => return None,
-    };
-    let side = match side {
-        "ours" => Side::Ours,
-        "second" => Side::Second,
         _ => return None,
     };
     let number = |place: usize| numbers[place].parse::<u32>().ok();
@@ -180,29 +144,10 @@ fn parse_count(words: &[&str]) -> Option<(Side, Kind, u32)> {
         "unfork" => Some(number(1)?),
         _ => return None,
     };
-    Some((
-        side,
-        Kind {
-            cipher: number(0)?,
-            from,
-            want: number(2)?,
-        },
-        number(3)?,
-    ))
-}
-
-fn main() {
-    let arguments: Vec<String> = std::env::args().skip(1).collect();
-    let words: Vec<&str> = arguments.iter().map(String::as_str).collect();
-    match words.split_first() {
-        None => print_table(),
-        Some((&"count", rest)) if parse_count(rest).is_some() => {
-            let (side, kind, count) = parse_count(rest).unwrap();
-            run(side, kind, count);
-        }
-        _ => {
-            eprintln!("bench [count ours|second fork|unfork CIPHER FROM WANT N]");
-            exit(2);
-        }
-    }
+    let kind = Kind {
+        cipher: number(0)?,
+        from,
+        want: number(2)?,
+    };
+    Some((Side::find(side)?, kind, number(3)?))
 }

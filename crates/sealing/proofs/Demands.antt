@@ -1,0 +1,149 @@
+-- The three demands, on the definitions that the contracts of seal, open and view cite (specs/Calls.antt, View.antt; the words
+-- `Admitted` and `SealsTo` in specs/Demands.antt). These definitions are total, so every input of every length is answered; that
+-- the calls end and answer so is what their contracts say. Assumes nothing.
+use mathlib.Core.Path.{_≡_, refl, sym, _∙_}
+use Prim.Native.Nat.{ℕ, _+_, _-_, _≤_, _<_}
+use mathlib.Core.Logic.{_↔_}
+use mathlib.Core.List.{List}
+use lib.ListN.{length}
+use Rattle.cells.specs.Cells.{Bytes}
+use Rattle.ciphers.specs.declared.Cipher.{Cipher}
+use Rattle.ciphers.specs.declared.Cipher.the-variants.{N64T192, N128T256}
+use Rattle.ciphers.specs.Ciphers.{widthOf, blockOf, counted}
+use Rattle.forkskinny.specs.ForkSkinny.{otherOf}
+use Rattle.forkskinny.proofs.Conditions.{forkOne, unforkInput, unforkOther, condition-1, condition-2}
+use Rattle.forkskinny.proofs.Forkcipher as F
+use Rattle.modes.specs.Mode.{sealRun, openRun}
+use Rattle.modes.specs.Paef.{paef}
+use Rattle.modes.specs.Saef.{saef}
+use Rattle.steps.specs.Skinny.{skinny}
+use Rattle.sealing.specs.declared.Answer.{Answer}
+use Rattle.sealing.specs.declared.schemes.Scheme.{Scheme}
+use Rattle.sealing.specs.declared.schemes.Named.the-variants.{Known}
+use Rattle.sealing.specs.Schemes.{scheme1, scheme2, scheme3, schemeOf}
+use Rattle.sealing.specs.Calls.{Told, told, refused, done, forged, judged, sealOf, openOf}
+use Rattle.sealing.specs.Demands.{Admitted, SealsTo}
+use Rattle.sealing.specs.View.{viewOf}
+use Rattle.sealing.proofs.Admitted.{seal-admitted, open-admitted}
+use Rattle.sealing.proofs.Exactly.{opens-iff, one-body, body-returned, none-forged}
+use Rattle.sealing.proofs.Table.{open-known, none-named}
+use Rattle.sealing.proofs.Ways.{seal-ways, open-ways, forged-named, forged-under, no-length, told-same}
+
+-- ---- demand 1: refusals come in one fixed order (specs/Checks.antt), each with its number, length zero and fixed contents of the
+-- room; and a contract leaves a caller one result
+
+-- a refused seal has length 0 and leaves the room unchanged
+pub seal-refused : (scheme : ℕ) (key nonce header body room : List ℕ)
+    → (sealOf scheme key nonce header body room .number ≡ 0 → ⊥)
+    → sealOf scheme key nonce header body room ≡ refused (sealOf scheme key nonce header body room .number) room
+seal-refused scheme key nonce header body room =
+    seal-ways (λ (t : Told). (t .number ≡ 0 → ⊥) → t ≡ refused (t .number) room) key nonce header scheme body room
+    (λ l out h. absurd (h refl)) (λ k few h. refl)
+
+-- a refused open too, other than with 6
+pub open-refused : (scheme : ℕ) (key nonce header run room : List ℕ)
+    → (openOf scheme key nonce header run room .number ≡ 0 → ⊥)
+    → (openOf scheme key nonce header run room .number ≡ 6 → ⊥)
+    → openOf scheme key nonce header run room ≡ refused (openOf scheme key nonce header run room .number) room
+open-refused scheme key nonce header run room =
+    open-ways (λ (t : Told). (t .number ≡ 0 → ⊥) → (t .number ≡ 6 → ⊥) → t ≡ refused (t .number) room) key nonce header scheme run room
+    (λ l out h j. absurd (h refl)) (λ l h j. absurd (j refl)) (λ k few h j. refl)
+
+-- 6 leaves zeros where a body would have been, and the rest unchanged
+pub open-forged : (scheme : ℕ) (s : Scheme) (key nonce header run room : List ℕ) → schemeOf scheme ≡ Known s
+    → openOf scheme key nonce header run room .number ≡ 6
+    → openOf scheme key nonce header run room ≡ forged (length run - blockOf (s .cipher)) room
+open-forged scheme s key nonce header run room known =
+    rw (open-known scheme s known key nonce header run room) (forged-under s key nonce header run room)
+
+-- an unknown scheme is 1, before all else
+pub unknown : (scheme : ℕ) (key nonce header input room : List ℕ) → (scheme ≡ 1 → ⊥) → (scheme ≡ 2 → ⊥) → (scheme ≡ 3 → ⊥)
+    → (sealOf scheme key nonce header input room ≡ refused 1 room) × (openOf scheme key nonce header input room ≡ refused 1 room)
+unfolding sealOf openOf
+unknown scheme key nonce header input room a b c = (rw (none-named scheme a b c), rw (none-named scheme a b c))
+
+-- any two results that a contract allows are one
+pub same-seal : (scheme : ℕ) (key nonce header body room : List ℕ) (a b : Answer) (r q : List ℕ)
+    → told a r ≡ sealOf scheme key nonce header body room → told b q ≡ sealOf scheme key nonce header body room → (a ≡ b) × (r ≡ q)
+same-seal scheme key nonce header body room a b r q = told-same a b r q (sealOf scheme key nonce header body room)
+
+pub same-open : (scheme : ℕ) (key nonce header run room : List ℕ) (a b : Answer) (r q : List ℕ)
+    → told a r ≡ openOf scheme key nonce header run room → told b q ≡ openOf scheme key nonce header run room → (a ≡ b) × (r ≡ q)
+same-open scheme key nonce header run room a b r q = told-same a b r q (openOf scheme key nonce header run room)
+
+pub same-view : (number l : ℕ) (room v w : List ℕ) → v ≡ viewOf number l room → w ≡ viewOf number l room → v ≡ w
+same-view number l room v w p q = p ∙ sym q
+
+-- two opens refused with 6 under one scheme, of equal lengths and with equal room, can't be told apart
+pub same-forged : (scheme : ℕ) (key nonce header run key′ nonce′ header′ run′ room : List ℕ) → length run ≡ length run′
+    → openOf scheme key nonce header run room .number ≡ 6 → openOf scheme key′ nonce′ header′ run′ room .number ≡ 6
+    → openOf scheme key nonce header run room ≡ openOf scheme key′ nonce′ header′ run′ room
+same-forged scheme key nonce header run key′ nonce′ header′ run′ room l e e′ =
+    let (s, known) = forged-named scheme key nonce header run room e in
+    rw (open-forged scheme s key nonce header run room known e, open-forged scheme s key′ nonce′ header′ run′ room known e′, l)
+
+-- ---- demand 2: what is computed is PAEF and SAEF over ForkSkinny as published
+
+module _ (key nonce header body room : List ℕ) where
+  pub seal-1 : Admitted 1 scheme1 key nonce header → length body ≤ 65528 → length body + 8 ≤ length room
+      → sealOf 1 key nonce header body room ≡ done (length body + 8) (sealRun 8 (paef 8 (skinny N64T192 key) nonce) header body) room
+  seal-1 ok b r = seal-admitted 1 scheme1 key nonce header ok body room b r
+
+  pub seal-2 : Admitted 2 scheme2 key nonce header → length body ≤ 131056 → length body + 16 ≤ length room
+      → sealOf 2 key nonce header body room ≡ done (length body + 16) (sealRun 16 (paef 16 (skinny N128T256 key) nonce) header body) room
+  seal-2 ok b r = seal-admitted 2 scheme2 key nonce header ok body room b r
+
+  pub seal-3 : Admitted 3 scheme3 key nonce header → length body ≤ 131056 → length body + 16 ≤ length room
+      → sealOf 3 key nonce header body room ≡ done (length body + 16) (sealRun 16 (saef 16 (skinny N128T256 key) nonce) header body) room
+  seal-3 ok b r = seal-admitted 3 scheme3 key nonce header ok body room b r
+
+module _ (key nonce header run room : List ℕ) where
+  pub open-1 : Admitted 1 scheme1 key nonce header → 8 ≤ length run → length run ≤ 65536 → length run ≤ length room + 8
+      → openOf 1 key nonce header run room ≡ judged (openRun 8 (paef 8 (skinny N64T192 key) nonce) header run) (length run - 8) room
+  open-1 ok l b r = open-admitted 1 scheme1 key nonce header ok run room l b r
+
+  pub open-2 : Admitted 2 scheme2 key nonce header → 16 ≤ length run → length run ≤ 131072 → length run ≤ length room + 16
+      → openOf 2 key nonce header run room ≡ judged (openRun 16 (paef 16 (skinny N128T256 key) nonce) header run) (length run - 16) room
+  open-2 ok l b r = open-admitted 2 scheme2 key nonce header ok run room l b r
+
+  pub open-3 : Admitted 3 scheme3 key nonce header → 16 ≤ length run → length run ≤ 131072 → length run ≤ length room + 16
+      → openOf 3 key nonce header run room ≡ judged (openRun 16 (saef 16 (skinny N128T256 key) nonce) header run) (length run - 16) room
+  open-3 ok l b r = open-admitted 3 scheme3 key nonce header ok run room l b r
+
+-- a block can be taken back from either half h, and the other half comes out again
+module _ (c : Cipher) (key tweak m : List ℕ) (hk : Bytes key) (ht : Bytes tweak) (hm : F.Block m) (h : ℕ) (two : h < 2) where
+  pub half-back : unforkInput c key tweak (forkOne c key tweak m h) h ≡ counted (widthOf c) m
+  half-back = condition-1 c key tweak hk ht h two m hm
+
+  pub half-other : unforkOther c key tweak (forkOne c key tweak m h) h ≡ forkOne c key tweak m (otherOf h)
+  half-other = condition-2 c key tweak hk ht h two m hm
+
+-- ---- demand 3: under one scheme, an admitted key, nonce and header, and a room large enough
+
+module _ (number : ℕ) (s : Scheme) (key nonce header run room : List ℕ) (ok : Admitted number s key nonce header) (hr : Bytes run)
+    (enough : length run ≤ length room + blockOf (s .cipher)) where
+  -- a run opens exactly if some body within the limit seals to it
+  pub opens-exactly : (openOf number key nonce header run room .number ≡ 0) ↔ ((body : List ℕ) × SealsTo number s key nonce header body run)
+  opens-exactly = opens-iff number s key nonce header ok run room hr enough
+
+  -- that body is the only one
+  pub only-one : (a b : List ℕ) → SealsTo number s key nonce header a run → SealsTo number s key nonce header b run → a ≡ b
+  only-one = one-body number s key nonce header ok run room hr enough
+
+  -- and it is returned
+  pub returned : (body : List ℕ) → SealsTo number s key nonce header body run
+      → openOf number key nonce header run room ≡ done (length body) body room
+  returned = body-returned number s key nonce header ok run room hr enough
+
+  -- every other run is refused
+  pub others-refused : ((body : List ℕ) → SealsTo number s key nonce header body run → ⊥)
+      → (openOf number key nonce header run room .number ≡ 0 → ⊥) × (openOf number key nonce header run room .length ≡ 0)
+  others-refused none =
+      let e : openOf number key nonce header run room .number ≡ 0 → ⊥ = λ z. let (body, t) = opens-exactly .0 z in none body t in
+      (e, no-length number key nonce header run room e)
+
+  -- with 6, if it has the length of a sealed body
+  pub others-forged : ((body : List ℕ) → SealsTo number s key nonce header body run → ⊥)
+      → blockOf (s .cipher) ≤ length run → length run ≤ s .body + blockOf (s .cipher)
+      → openOf number key nonce header run room ≡ forged (length run - blockOf (s .cipher)) room
+  others-forged = none-forged number s key nonce header ok run room hr enough

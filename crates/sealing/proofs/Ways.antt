@@ -1,0 +1,110 @@
+-- The ways in which a call answers, whatever it is given: what holds of each of them holds of the answer. Assumes nothing.
+use mathlib.Core.Path.{_≡_, refl, sym, ap, _∙_}
+use Prim.Native.Nat.{ℕ, zero, suc, _+_, _-_, _≤_}
+use native.Mathlib.Omega.{arith}
+use mathlib.Core.Bool.{Bool, true, false}
+use mathlib.Core.List.{List}
+use lib.Dec.{ltb}
+use lib.ListN.{length}
+use Rattle.ciphers.specs.Ciphers.{blockOf}
+use Rattle.modes.specs.Blocks.{pick}
+use Rattle.sealing.specs.declared.Answer.{Answer}
+use Rattle.sealing.specs.declared.schemes.Scheme.{Scheme}
+use Rattle.sealing.specs.declared.schemes.Named.{Named}
+use Rattle.sealing.specs.declared.schemes.Named.the-variants.{Known, Unknown}
+use Rattle.sealing.specs.Schemes.{schemeOf}
+use Rattle.sealing.specs.Calls.{Told, told, refused, done, forged, passed, under}
+use Rattle.sealing.specs.Calls.{sealed, opened, sealUnder, openUnder, sealOf, openOf}
+use Rattle.sealing.proofs.Passed.{check-most}
+
+-- ---- for any property of what is told
+
+module _ (P : Told → Type 0) where
+  pick-all : (b : Bool) (t u : Told) → P t → P u → P (pick b t u)
+  pick-all true t u p q = p
+  pick-all false t u p q = q
+
+  passed-all : (k : ℕ) (t : Told) (room : List ℕ) → P t → P (refused k room) → P (passed k t room)
+  passed-all zero t room p q = p
+  passed-all (suc k) t room p q = q
+
+  under-all : (m : Named) (f : Scheme → Told) (room : List ℕ) → ((s : Scheme) → P (f s)) → P (refused 1 room) → P (under m f room)
+  under-all (Known s) f room p q = p s
+  under-all Unknown f room p q = q
+
+  module _ (key nonce header : List ℕ) where
+    -- a seal is done or refused
+    seal-under-ways : (s : Scheme) (body room : List ℕ) → ((l : ℕ) (out : List ℕ) → P (done l out room))
+        → ((k : ℕ) → k ≤ 5 → P (refused k room)) → P (sealUnder s key nonce header body room)
+    unfolding sealUnder
+    seal-under-ways s body room d r =
+        let n = blockOf (s .cipher) in
+        passed-all _ _ room
+        (d (length body + n) (sealed s key nonce header body))
+        (r _ (check-most s (length key) (length nonce) (length header) (length body) false n (length room)))
+
+    pub seal-ways : (scheme : ℕ) (body room : List ℕ) → ((l : ℕ) (out : List ℕ) → P (done l out room))
+        → ((k : ℕ) → k ≤ 5 → P (refused k room)) → P (sealOf scheme key nonce header body room)
+    unfolding sealOf
+    seal-ways scheme body room d r =
+        under-all (schemeOf scheme) (λ s. sealUnder s key nonce header body room) room
+        (λ s. seal-under-ways s body room d r)
+        (r 1 (omega arith))
+
+    -- an open is done, forged or refused
+    open-under-ways : (s : Scheme) (run room : List ℕ)
+        → ((out : List ℕ) → P (done (length run - blockOf (s .cipher)) out room))
+        → P (forged (length run - blockOf (s .cipher)) room)
+        → ((k : ℕ) → k ≤ 5 → P (refused k room)) → P (openUnder s key nonce header run room)
+    unfolding openUnder
+    open-under-ways s run room d f r =
+        let n = blockOf (s .cipher) in
+        let l = length run - n in
+        let o = opened s key nonce header run in
+        passed-all _ _ room
+        (pick-all (o .authentic) _ _ (d (o .body)) f)
+        (r _ (check-most s (length key) (length nonce) (length header) l (ltb (length run) n) 0 (length room)))
+
+    pub open-ways : (scheme : ℕ) (run room : List ℕ) → ((l : ℕ) (out : List ℕ) → P (done l out room))
+        → ((l : ℕ) → P (forged l room)) → ((k : ℕ) → k ≤ 5 → P (refused k room)) → P (openOf scheme key nonce header run room)
+    unfolding openOf
+    open-ways scheme run room d f r =
+        under-all (schemeOf scheme) (λ s. openUnder s key nonce header run room) room
+        (λ s. let l = length run - blockOf (s .cipher) in open-under-ways s run room (d l) (f l) r)
+        (r 1 (omega arith))
+
+-- ---- what follows
+
+-- 6 is told only where a scheme is named: an unknown one is 1
+pub forged-named : (scheme : ℕ) (key nonce header run room : List ℕ) → openOf scheme key nonce header run room .number ≡ 6
+    → (s : Scheme) × (schemeOf scheme ≡ Known s)
+unfolding openOf
+forged-named scheme key nonce header run room e = go (schemeOf scheme) refl e
+  where
+    go : (m : Named) → schemeOf scheme ≡ m → under m (λ s. openUnder s key nonce header run room) room .number ≡ 6
+        → (s : Scheme) × (schemeOf scheme ≡ Known s)
+    go (Known s) q h = (s, q)
+    go Unknown q h = absurd (omega arith)
+
+-- and then a body's place holds zeros: no check answers 6
+pub forged-under : (s : Scheme) (key nonce header run room : List ℕ) → openUnder s key nonce header run room .number ≡ 6
+    → openUnder s key nonce header run room ≡ forged (length run - blockOf (s .cipher)) room
+forged-under s key nonce header run room =
+    open-under-ways (λ (t : Told). t .number ≡ 6 → t ≡ forged (length run - blockOf (s .cipher)) room) key nonce header s run room
+    (λ out h. absurd (omega arith))
+    (λ h. refl)
+    (λ k few h. absurd (omega arith))
+
+-- an open that is not done has no length
+pub no-length : (scheme : ℕ) (key nonce header run room : List ℕ) → (openOf scheme key nonce header run room .number ≡ 0 → ⊥)
+    → openOf scheme key nonce header run room .length ≡ 0
+no-length scheme key nonce header run room =
+    open-ways (λ (t : Told). (t .number ≡ 0 → ⊥) → t .length ≡ 0) key nonce header scheme run room
+    (λ l out h. absurd (h refl))
+    (λ l h. refl)
+    (λ k few h. refl)
+
+-- what is told has the answer's number and length in it, and the room
+pub told-same : (a b : Answer) (r q : List ℕ) (t : Told) → told a r ≡ t → told b q ≡ t → (a ≡ b) × (r ≡ q)
+told-same a b r q t p e =
+    (ap (λ (u : Told). record { number = u .number; length = u .length }) (p ∙ sym e), ap (λ (u : Told). u .room) (p ∙ sym e))

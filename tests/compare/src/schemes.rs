@@ -1,0 +1,88 @@
+//! The three schemes (document 01, the table of the desk's part), and a scheme
+//! with the key and nonce of one call.
+
+use crate::blocks::Block;
+use crate::calls::{fork, unfork};
+
+/// Bytes of a key under every scheme.
+pub const KEY_BYTES: usize = 16;
+
+/// Blocks of a header, and of a body, at most: 001, section 6.2, with thirteen
+/// bits of block number. Document 01 sets the same limit for SAEF.
+const MOST_BLOCKS: usize = 8191;
+
+#[derive(Clone, Copy, PartialEq, Eq, Debug)]
+pub enum Mode {
+    Paef,
+    Saef,
+}
+
+/// One row of the table; `cipher` is the block calls' number.
+#[derive(Clone, Copy, PartialEq, Eq, Debug)]
+pub struct Scheme {
+    pub cipher: u32,
+    pub mode: Mode,
+    pub block_bytes: usize,
+    pub nonce_bytes: usize,
+}
+
+pub static SCHEMES: [Scheme; 3] = [
+    Scheme {
+        cipher: 1,
+        mode: Mode::Paef,
+        block_bytes: 8,
+        nonce_bytes: 6,
+    },
+    Scheme {
+        cipher: 2,
+        mode: Mode::Paef,
+        block_bytes: 16,
+        nonce_bytes: 14,
+    },
+    Scheme {
+        cipher: 2,
+        mode: Mode::Saef,
+        block_bytes: 16,
+        nonce_bytes: 15,
+    },
+];
+
+impl Scheme {
+    /// The row of a caller's number, if there is one.
+    pub fn find(number: u32) -> Option<&'static Scheme> {
+        SCHEMES.get((number as usize).checked_sub(1)?)
+    }
+
+    /// Bytes of a header, and of a body, at most. A short last block counts
+    /// as a block.
+    pub fn most_bytes(&self) -> usize {
+        MOST_BLOCKS * self.block_bytes
+    }
+}
+
+/// What every block of one call shares. The nonce has the scheme's length.
+#[derive(Clone, Copy)]
+pub struct Keyed<'a> {
+    pub scheme: &'static Scheme,
+    pub key: &'a [u8; KEY_BYTES],
+    pub nonce: &'a [u8],
+}
+
+impl Keyed<'_> {
+    /// 001's F with selector 0.
+    pub fn half0(&self, tweak: &Block, block: &Block) -> Block {
+        fork(self.scheme.cipher, self.key, tweak, block, 0).half0
+    }
+
+    /// 001's F with selector b: both halves.
+    pub fn both(&self, tweak: &Block, block: &Block) -> (Block, Block) {
+        let answer = fork(self.scheme.cipher, self.key, tweak, block, 2);
+        (answer.half0, answer.half1)
+    }
+
+    /// 001's inverse F from half 0 with selector b: the input and half 1.
+    pub fn back(&self, tweak: &Block, half0: &Block) -> (Block, Block) {
+        let answer = unfork(self.scheme.cipher, self.key, tweak, half0, 0, 2);
+        (answer.input, answer.other)
+    }
+}

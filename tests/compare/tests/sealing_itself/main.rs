@@ -1,0 +1,104 @@
+//! Seal, open and view of the second program, against themselves and against
+//! documents 01 and 001.
+
+mod damage;
+mod facts;
+mod figures;
+mod refusals;
+mod round_trips;
+
+use compare::random::Random;
+use compare::schemes::Scheme;
+use compare::sealing::{open, seal, Answer, DONE};
+
+const SCHEMES: [u32; 3] = [1, 2, 3];
+
+/// Bytes of room behind the longest output, to see that they stay.
+const SPARE: usize = 5;
+
+/// What both directions share: a scheme with a key, a nonce and a header.
+#[derive(Clone)]
+struct Case {
+    scheme: u32,
+    key: Vec<u8>,
+    nonce: Vec<u8>,
+    header: Vec<u8>,
+}
+
+fn row_of(scheme: u32) -> &'static Scheme {
+    Scheme::find(scheme).expect("a scheme of the table")
+}
+
+fn size_of(scheme: u32) -> usize {
+    row_of(scheme).block_bytes
+}
+
+/// What a room holds before a call: no byte is zero.
+fn unused_room(length: usize) -> Vec<u8> {
+    (0..length).map(|place| (place % 251) as u8 + 1).collect()
+}
+
+impl Case {
+    fn random(random: &mut Random, scheme: u32, header_length: usize) -> Case {
+        Case {
+            scheme,
+            key: random.bytes(16),
+            nonce: random.bytes(row_of(scheme).nonce_bytes),
+            header: random.bytes(header_length),
+        }
+    }
+
+    /// The same under another header.
+    fn under(&self, header: &[u8]) -> Case {
+        Case {
+            header: header.to_vec(),
+            ..self.clone()
+        }
+    }
+
+    fn seal_into(&self, body: &[u8], room: &mut [u8]) -> Answer {
+        seal(
+            self.scheme,
+            &self.key,
+            &self.nonce,
+            &self.header,
+            body,
+            room,
+        )
+    }
+
+    fn open_into(&self, run: &[u8], room: &mut [u8]) -> Answer {
+        open(self.scheme, &self.key, &self.nonce, &self.header, run, room)
+    }
+
+    /// A seal that is done, in a room with bytes to spare.
+    fn sealed(&self, body: &[u8]) -> Vec<u8> {
+        let length = body.len() + size_of(self.scheme);
+        let mut room = unused_room(length + SPARE);
+        let answer = self.seal_into(body, &mut room);
+        let number = DONE;
+        assert_eq!(answer, Answer { number, length });
+        assert_eq!(room[length..], unused_room(length + SPARE)[length..]);
+        room.truncate(length);
+        room
+    }
+
+    /// An open of a run of at least one block, in a room with bytes to spare;
+    /// gives the number and the part of the room that a body would take.
+    fn opened(&self, run: &[u8]) -> (u32, Vec<u8>) {
+        let length = run.len() - size_of(self.scheme);
+        let mut room = unused_room(length + SPARE);
+        let answer = self.open_into(run, &mut room);
+        let expected_length = if answer.number == DONE { length } else { 0 };
+        assert_eq!(answer.length, expected_length);
+        assert_eq!(room[length..], unused_room(length + SPARE)[length..]);
+        room.truncate(length);
+        (answer.number, room)
+    }
+
+    /// An open that is refused with 6, and the zeros it leaves.
+    fn assert_not_authentic(&self, run: &[u8]) {
+        let zeros = vec![0; run.len() - size_of(self.scheme)];
+        assert_eq!(self.opened(run), (compare::sealing::NOT_AUTHENTIC, zeros));
+    }
+}

@@ -1,0 +1,186 @@
+//! Document 01's table of answers, row by row, and the view call.
+
+use crate::{row_of, size_of, unused_room, Case, SCHEMES};
+use compare::random::Random;
+use compare::sealing::{
+    view, Answer, DONE, NOT_AUTHENTIC, NO_BLOCK, SHORT_ROOM, TOO_LONG, UNKNOWN_SCHEME, WRONG_LENGTH,
+};
+
+/// Refused with this number by both directions, and the room as it was. The
+/// run is not authentic, which must not matter.
+fn assert_refused(case: &Case, body: &[u8], run: &[u8], number: u32) {
+    let room = unused_room(body.len().max(run.len()) + 16);
+    let refused = Answer { number, length: 0 };
+    let mut after = room.clone();
+    assert_eq!(case.seal_into(body, &mut after), refused);
+    assert_eq!(after, room);
+    assert_eq!(case.open_into(run, &mut after), refused);
+    assert_eq!(after, room);
+}
+
+fn good_case(scheme: u32) -> Case {
+    Case::random(&mut Random::new(61), scheme, 20)
+}
+
+#[test]
+fn the_numbers_are_those_of_the_table() {
+    assert_eq!((DONE, UNKNOWN_SCHEME, WRONG_LENGTH, TOO_LONG), (0, 1, 2, 3));
+    assert_eq!((NO_BLOCK, SHORT_ROOM, NOT_AUTHENTIC), (4, 5, 6));
+}
+
+#[test]
+fn unknown_schemes_are_1() {
+    for scheme in [0, 4, 5, 256, u32::MAX] {
+        let case = Case {
+            scheme,
+            ..good_case(2)
+        };
+        assert_refused(&case, &[1; 40], &[2; 40], UNKNOWN_SCHEME);
+    }
+}
+
+#[test]
+fn wrong_key_and_nonce_lengths_are_2() {
+    for scheme in SCHEMES {
+        let mut case = good_case(scheme);
+        for length in [0, 1, 15, 17, 32] {
+            case.key = vec![3; length];
+            assert_refused(&case, &[1; 40], &[2; 40], WRONG_LENGTH);
+        }
+        case = good_case(scheme);
+        for length in (0..=17).filter(|length| *length != row_of(scheme).nonce_bytes) {
+            case.nonce = vec![4; length];
+            assert_refused(&case, &[1; 40], &[2; 40], WRONG_LENGTH);
+        }
+    }
+}
+
+#[test]
+fn one_byte_above_the_limit_is_3() {
+    for (scheme, longest) in [(1, 65_528), (2, 131_056), (3, 131_056)] {
+        let case = good_case(scheme);
+        let body = vec![5; longest + 1];
+        let run = vec![6; longest + size_of(scheme) + 1];
+        assert_refused(&case, &body, &run, TOO_LONG);
+        assert_refused(&case.under(&body), &[1; 40], &[2; 40], TOO_LONG);
+        assert_refused(&case.under(&body), &[], &[], TOO_LONG);
+        case.assert_not_authentic(&run[1..]);
+    }
+}
+
+#[test]
+fn runs_shorter_than_a_block_are_4() {
+    for scheme in SCHEMES {
+        let case = good_case(scheme);
+        for length in 0..size_of(scheme) {
+            let room = unused_room(30);
+            let mut after = room.clone();
+            let answer = case.open_into(&vec![7; length], &mut after);
+            let number = NO_BLOCK;
+            assert_eq!(answer, Answer { number, length: 0 });
+            assert_eq!(after, room);
+        }
+        case.assert_not_authentic(&vec![7; size_of(scheme)]);
+    }
+}
+
+#[test]
+fn rooms_one_byte_short_are_5_and_exact_ones_enough() {
+    let number = SHORT_ROOM;
+    for scheme in SCHEMES {
+        let case = good_case(scheme);
+        for body in [&[][..], &[1], &[2; 8], &[3; 16], &[4; 50]] {
+            let run = case.sealed(body);
+            let room = unused_room(run.len());
+            let mut after = room.clone();
+            let answer = case.seal_into(body, &mut after[1..]);
+            assert_eq!(answer, Answer { number, length: 0 });
+            assert_eq!(after, room);
+            let answer = case.seal_into(body, &mut after);
+            let length = run.len();
+            assert_eq!((answer.number, answer.length), (DONE, length));
+            assert_eq!(after, run);
+
+            let mut exact = unused_room(body.len());
+            let answer = case.open_into(&run, &mut exact);
+            assert_eq!((answer.number, answer.length), (DONE, body.len()));
+            assert_eq!(exact, body);
+            if !body.is_empty() {
+                let mut short = unused_room(body.len() - 1);
+                let answer = case.open_into(&run, &mut short);
+                assert_eq!(answer, Answer { number, length: 0 });
+                assert_eq!(short, unused_room(body.len() - 1));
+            }
+        }
+    }
+}
+
+/// As many zeros as a body would have taken, none for an empty one.
+#[test]
+fn a_run_that_is_not_authentic_is_6_and_leaves_zeros() {
+    for scheme in SCHEMES {
+        let case = good_case(scheme);
+        for body_length in [0, 1, size_of(scheme), 37] {
+            let mut run = case.sealed(&vec![8; body_length]);
+            run[0] ^= 1;
+            let mut room = unused_room(100);
+            let answer = case.open_into(&run, &mut room);
+            let number = NOT_AUTHENTIC;
+            assert_eq!(answer, Answer { number, length: 0 });
+            assert_eq!(room[..body_length], vec![0; body_length]);
+            assert_eq!(room[body_length..], unused_room(100)[body_length..]);
+        }
+    }
+}
+
+/// Every fault at once, and then one taken away after the other, the first of
+/// the table first.
+#[test]
+fn the_first_that_applies_answers() {
+    for (scheme, longest) in [(1, 65_528), (2, 131_056), (3, 131_056)] {
+        let good = good_case(scheme);
+        let too_long = vec![1; longest + size_of(scheme) + 1];
+        let mut case = Case {
+            scheme: 4,
+            key: vec![1; 15],
+            nonce: vec![1; 16],
+            header: too_long.clone(),
+        };
+        let answers = |case: &Case| {
+            [
+                case.seal_into(&too_long, &mut []).number,
+                case.open_into(&too_long, &mut []).number,
+                case.open_into(&[], &mut []).number,
+            ]
+        };
+        assert_eq!(answers(&case), [UNKNOWN_SCHEME; 3]);
+        case.scheme = scheme;
+        assert_eq!(answers(&case), [WRONG_LENGTH; 3]);
+        case.key = good.key;
+        assert_eq!(answers(&case), [WRONG_LENGTH; 3]);
+        case.nonce = good.nonce;
+        assert_eq!(answers(&case), [TOO_LONG; 3]);
+        case.header = good.header;
+        assert_eq!(answers(&case), [TOO_LONG, TOO_LONG, NO_BLOCK]);
+        assert_eq!(case.seal_into(&[1; 40], &mut []).number, SHORT_ROOM);
+        assert_eq!(case.open_into(&[1; 40], &mut []).number, SHORT_ROOM);
+        assert_eq!(case.opened(&[1; 40]).0, NOT_AUTHENTIC);
+        assert_eq!(case.opened(&case.sealed(&[1; 40])).0, DONE);
+    }
+}
+
+#[test]
+fn view_is_the_front_part_after_0_alone() {
+    let room = unused_room(10);
+    for length in 0..=10 {
+        assert_eq!(view(DONE, length, &room), &room[..length]);
+    }
+    for length in [11, 12, usize::MAX] {
+        assert!(view(DONE, length, &room).is_empty());
+    }
+    for number in [1, 2, 3, 4, 5, 6, 7, u32::MAX] {
+        assert!(view(number, 4, &room).is_empty());
+        assert!(view(number, 10, &room).is_empty());
+    }
+    assert!(view(DONE, 1, &[]).is_empty());
+}
