@@ -78,7 +78,7 @@ pub extern "C" fn auraski_open(
 ) -> u32
     ensures { λ r. ⌜ answered r (now (length .exit)) (now (room .exit)) ≡ openOf scheme (now (key .entry)) (now (nonce .entry)) (now (header .entry)) (now (sealed .entry)) (now (room .entry)) ⌝ }
 {
-    let a = sealing::open(scheme, key, nonce, header, sealed, room);
-    *length = a.length;
-    a.number
+    let b = sealing::open(scheme, key, nonce, header, sealed, room);
+    *length = b.length;
+    b.number
 }

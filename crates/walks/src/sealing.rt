@@ -29,7 +29,8 @@ fn turn(
     ensures { λ _. ⌜ (now (rest .exit) ≡ (modeOf k c key (now (nonce .entry))) .out (stateOf k (blockOf c) s) (take (blockOf c) (now (part .entry))) ++ drop (blockOf c) (now (rest .entry))) × (length ((modeOf k c key (now (nonce .entry))) .out (stateOf k (blockOf c) s) (take (blockOf c) (now (part .entry)))) ≡ blockOf c) ⌝ }
 {
     let n = ciphers::block_of(c);
-    let t = steps::seal_block(c, k, key, nonce, s, load(part, n));
+    let x = load(part, n);
+    let t = steps::seal_block(c, k, key, nonce, s, x);
     let out = t.out;
     store(rest, out, n);
     t.next
@@ -43,7 +44,8 @@ fn end(c: Cipher, k: Kind, key: [u8; 16], nonce: &[u8], s: State, part: &[u8], r
     let n = ciphers::block_of(c);
     let l = part.len();
     let f = is_full(n, l);
-    let p = steps::seal_last(c, k, key, nonce, f, s, load(part, n));
+    let x = load(part, n);
+    let p = steps::seal_last(c, k, key, nonce, f, s, x);
     let block = p.first;
     let tag = p.second;
     store(rest, block, n);

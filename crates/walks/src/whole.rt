@@ -53,8 +53,8 @@ pub fn open(
 {
     let n = ciphers::block_of(c);
     if run.len() == n {
-        let s = head(c, k, key, nonce, true, header);
-        let block = steps::alone(c, k, key, nonce, s);
+        let t = head(c, k, key, nonce, true, header);
+        let block = steps::alone(c, k, key, nonce, t);
         return equal(run, &block[..n]);
     }
     let s = head(c, k, key, nonce, false, header);

@@ -1,6 +1,9 @@
 //! The two sides, and how batches of calls are timed.
 
-use std::time::Instant;
+use std::time::{Duration, Instant};
+
+/// No kind of call is timed for longer, however many batches are left.
+const ENOUGH: Duration = Duration::from_secs(2);
 
 #[derive(Clone, Copy, PartialEq)]
 pub enum Side {
@@ -18,7 +21,7 @@ impl Side {
     }
 }
 
-/// How many batches there are, and how many calls in each.
+/// How many batches there are at most, and how many calls in each.
 #[derive(Clone, Copy)]
 pub struct Batches {
     pub count: usize,
@@ -37,7 +40,11 @@ fn time(calls: u32, run: impl FnOnce() -> u32) -> f64 {
 /// The quickest batch of each side, the two sides taking turns.
 pub fn quickest(batches: Batches, mut run: impl FnMut(Side) -> u32) -> (f64, f64) {
     let (mut ours, mut second) = (f64::MAX, f64::MAX);
+    let start = Instant::now();
     for _ in 0..batches.count {
+        if start.elapsed() > ENOUGH {
+            break;
+        }
         ours = ours.min(time(batches.calls, || run(Side::Ours)));
         second = second.min(time(batches.calls, || run(Side::Second)));
     }
