@@ -77,12 +77,12 @@ pub fn equal(a: &[u8], b: &[u8]) -> bool
     if a.len() != b.len() {
         return false;
     }
-    let mut i = 0;
-    while i < a.len() {
-        if a[i] != b[i] {
+    let mut at = 0;
+    while at < a.len() {
+        if a[at] != b[at] {
             return false;
         }
-        i += 1;
+        at += 1;
     }
     true
 }

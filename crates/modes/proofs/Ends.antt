@@ -47,11 +47,6 @@ both : (a b : Bool) → a && b ≡ true → (a ≡ true) × (b ≡ true)
 both true b e = (refl, e)
 both false b e = absurd (false≢true e)
 
-judge-yes : (n r : ℕ) (p second tag x : List ℕ) → take r second ≡ tag → drop r p ≡ take (n - r) (ten n) → take r p ≡ x
-    → judge n r p second tag ≡ record { authentic = true; body = x }
-unfolding judge
-judge-yes n r p second tag x e₁ e₂ e₃ = rw (e₁, e₂, e₃, same-refl tag, same-refl (take (n - r) (ten n)))
-
 module _ {St : Type 0} (n : ℕ) (M : Mode St) (Ok : St → Type 0) (L : Lawful n M Ok) where
   pub seal-last-block : (s : St) (x : List ℕ) → Ok s → Bytes x → length x ≤ n → Block (length x + n) (sealLast n M s x)
   unfolding sealLast
@@ -70,27 +65,6 @@ module _ {St : Type 0} (n : ℕ) (M : Mode St) (Ok : St → Type 0) (L : Lawful 
   open-at : (s : St) (r : ℕ) (c : List ℕ) → length c ≡ r + n → openLast n M s c ≡ openAt s r c
   unfolding openLast openAt
   open-at s r c h = let e : length c - n ≡ r = omega arith in ap (λ (k : ℕ). openAt s k c) e
-
-  pub open-seal-last : (s : St) (x : List ℕ) → Ok s → Bytes x → length x ≤ n
-      → openLast n M s (sealLast n M s x) ≡ record { authentic = true; body = x }
-  unfolding openAt sealLast
-  open-seal-last s x ok b h =
-      let r : ℕ = length x in
-      let f : Bool = full n r in
-      let o : Bool = M .blockFirst in
-      let p : List ℕ = pad n x in
-      let pb : Block n p = pad-block n x b in
-      let a : List ℕ = M .fin f s p in
-      let ab : Block n a = L .undo-fin f s ok .to p pb in
-      let la : length a ≡ n = ab .long in
-      let t : List ℕ = take r (M .tag f s p) in
-      let lt : length t ≡ r = length-take-le r (M .tag f s p) (omega (arith, L .tag-block f s p ok pb .long)) in
-      let ea : M .unfin f s a ≡ p = L .undo-fin f s ok .there p pb in
-      let et : M .untag f s a ≡ M .tag f s p = L .tag-is f s a ok ab ∙ ap (M .tag f s) ea in
-      open-at s r (sealLast n M s x) (seal-last-block s x ok b h .long)
-      ∙ ap₂ (λ (z w : List ℕ). judge n r (M .unfin f s z) (M .untag f s z) w) (block-join o n r a t la lt) (tag-join o n r a t la lt)
-      ∙ ap₂ (λ (z w : List ℕ). judge n r z w t) ea et
-      ∙ judge-yes n r p (M .tag f s p) t x refl (pad-rest n x h) (take-pad n x h)
 
   seal-open-at : (s : St) (c : List ℕ) (r : ℕ) → Ok s → Block (r + n) c → r ≤ n → openAt s r c .authentic ≡ true
       → Block r (openAt s r c .body) × (sealLast n M s (openAt s r c .body) ≡ c)
@@ -117,3 +91,30 @@ module _ {St : Type 0} (n : ℕ) (M : Mode St) (Ok : St → Type 0) (L : Lawful 
       → Block r (openLast n M s c .body) × (sealLast n M s (openLast n M s c .body) ≡ c)
   seal-open-last s c r ok h k e =
       rw (open-at s r c (h .long)) (seal-open-at s c r ok h k (rw (open-at s r c (h .long)) at e))
+
+judge-yes : (n r : ℕ) (p second tag x : List ℕ) → take r second ≡ tag → drop r p ≡ take (n - r) (ten n) → take r p ≡ x
+    → judge n r p second tag ≡ record { authentic = true; body = x }
+unfolding judge
+judge-yes n r p second tag x e₁ e₂ e₃ = rw (e₁, e₂, e₃, same-refl tag, same-refl (take (n - r) (ten n)))
+
+module _ {St : Type 0} (n : ℕ) (M : Mode St) (Ok : St → Type 0) (L : Lawful n M Ok) where
+  pub open-seal-last : (s : St) (x : List ℕ) → Ok s → Bytes x → length x ≤ n
+      → openLast n M s (sealLast n M s x) ≡ record { authentic = true; body = x }
+  unfolding openAt sealLast
+  open-seal-last s x ok b h =
+      let r : ℕ = length x in
+      let f : Bool = full n r in
+      let o : Bool = M .blockFirst in
+      let p : List ℕ = pad n x in
+      let pb : Block n p = pad-block n x b in
+      let a : List ℕ = M .fin f s p in
+      let ab : Block n a = L .undo-fin f s ok .to p pb in
+      let la : length a ≡ n = ab .long in
+      let t : List ℕ = take r (M .tag f s p) in
+      let lt : length t ≡ r = length-take-le r (M .tag f s p) (omega (arith, L .tag-block f s p ok pb .long)) in
+      let ea : M .unfin f s a ≡ p = L .undo-fin f s ok .there p pb in
+      let et : M .untag f s a ≡ M .tag f s p = L .tag-is f s a ok ab ∙ ap (M .tag f s) ea in
+      open-at n M Ok L s r (sealLast n M s x) (seal-last-block n M Ok L s x ok b h .long)
+      ∙ ap₂ (λ (z w : List ℕ). judge n r (M .unfin f s z) (M .untag f s z) w) (block-join o n r a t la lt) (tag-join o n r a t la lt)
+      ∙ ap₂ (λ (z w : List ℕ). judge n r z w t) ea et
+      ∙ judge-yes n r p (M .tag f s p) t x refl (pad-rest n x h) (take-pad n x h)

@@ -32,10 +32,11 @@ pub fn check(
     if s.body < body {
         return 3;
     }
+    let need = body + more;
     if short {
         return 4;
     }
-    if room < body + more {
+    if room < need {
         return 5;
     }
     0

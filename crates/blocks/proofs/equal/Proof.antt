@@ -20,10 +20,10 @@ same-false x y h = go (same x y) refl
     go false e = e
 
 abbrev Inv-loop : tie.InvT-loop
-Inv-loop a b i₀ i = (length a ≡ length b) × (i ≤ length a) × (take i a ≡ take i b)
+Inv-loop a b at₀ at = (length a ≡ length b) × (at ≤ length a) × (take at a ≡ take at b)
 
 abbrev μ-loop : tie.MeasureT-loop
-μ-loop a b i₀ i = length a - i
+μ-loop a b at₀ at = length a - at
 
 returns : tie.Need-returns Inv-loop μ-loop
 returns c = sym (same-false (c .before .args .a .now) (c .before .args .b .now) (λ e. c .if1 .taken (ap length e)))
@@ -42,10 +42,10 @@ returns-2 c =
     let l = c .before .before .before .before in
     let a = l .before .before .args .a .now in
     let b = l .before .before .args .b .now in
-    sym (same-false a b (λ e. c .if2 .taken (ap (λ q. getD q (l .loop .i) 0) e)))
+    sym (same-false a b (λ e. c .if2 .taken (ap (λ q. getD q (l .loop .at) 0) e)))
 
-add-i : tie.Need-add-i Inv-loop μ-loop
-add-i c = omega arith
+add-at : tie.Need-add-at Inv-loop μ-loop
+add-at c = omega arith
 
 loop-less : tie.Need-loop-less Inv-loop μ-loop
 loop-less c = omega arith
@@ -55,7 +55,7 @@ loop-again c =
     let l = c .before .before .before .before in
     let a = l .before .before .args .a .now in
     let b = l .before .before .args .b .now in
-    let i = l .loop .i in (
+    let i = l .loop .at in (
       l .loop .inv .0,
       omega arith,
       rw add-one (take-suc a i 0 (omega arith) ∙ ap₂ (λ (q : List ℕ) (v : ℕ). q ++ v ∷ []) (l .loop .inv .2) (c .if2 .left) ∙ sym (take-suc b i 0 (omega arith))),
@@ -66,7 +66,7 @@ returns-3 c =
     let l = c .before in
     let a = l .before .before .args .a .now in
     let b = l .before .before .args .b .now in
-    let i = l .loop .i in
+    let i = l .loop .at in
     let e : a ≡ b = sym (take-all i a (omega arith)) ∙ l .loop .inv .2 ∙ take-all i b (omega arith) in
     sym (ap (same a) (sym e) ∙ same-refl a)
 
@@ -81,7 +81,7 @@ equal-spec =
     shared-slice-read-if2
     shared-slice-read-if2-2
     returns-2
-    add-i
+    add-at
     loop-less
     loop-again
     returns-3)

@@ -15,6 +15,9 @@ use Rattle.sealing.proofs.Answers.{key-whole, open-refuses, open-does, 
 use borrow.Author.Tests.{ltb-false}
 use Rattle.sealing.proofs.Passed.{check-passed, check-long}
 use Rattle.sealing.proofs.Answers.{key-whole, open-refuses, open-does, open-forges}
+use borrow.Author.Tests.{ltb-false}
+use Rattle.sealing.proofs.Passed.{check-passed, check-long}
+use Rattle.sealing.proofs.Answers.{key-whole, open-refuses, open-does, open-forges}
 use borrow.Author.Needs.{needs}
 use Rattle.sealing.proofs.open_under.Statement.{statement}
 use Rattle.sealing.proofs.open_under.Tie as tie
@@ -26,7 +29,9 @@ body-of-requires : tie.Need-body-of-requires
 body-of-requires c κs = search needs
 
 check-requires : tie.Need-check-requires
-check-requires c κs = search needs
+check-requires c κs =
+    let a = c .before .before .before .before .before .before .before .args in
+    (c .before .before .before .before .before .before .before .pre, omega (arith, c .before .block-of .ensures, block-most (a .s .cipher)))
 
 returns : tie.Need-returns
 returns c =

@@ -21,12 +21,12 @@ returns-4 : tie.Need-returns-4
 unfolding checkOf
 returns-4 c = simp (eq-eqb _ _ (c .before .before .before .before .before .before .if1 .left), eq-eqb _ _ (c .before .before .before .before .if2 .left), le-ltb _ _ (c .before .before .if3 .left), lt-ltb _ _ (c .if4 .taken))
 
+add-need : tie.Need-add-need
+add-need c = omega (arith, c .before .before .before .before .before .before .before .before .pre .0 .body, c .before .before .before .before .before .before .before .before .pre .1, c .if4 .left)
+
 returns-5 : tie.Need-returns-5
 unfolding checkOf
 returns-5 c = simp (eq-eqb _ _ (c .before .before .before .before .before .before .before .if1 .left), eq-eqb _ _ (c .before .before .before .before .before .if2 .left), le-ltb _ _ (c .before .before .before .if3 .left), le-ltb _ _ (c .before .if4 .left), c .if5 .taken)
-
-add-if6 : tie.Need-add-if6
-add-if6 c = omega (arith, c .before .before .before .before .before .before .before .before .before .pre .0 .body, c .before .before .before .before .before .before .before .before .before .pre .1, c .before .if4 .left)
 
 returns-6 : tie.Need-returns-6
 unfolding checkOf
@@ -39,4 +39,4 @@ returns-7 c = simp (eq-eqb _ _ (c .before .before .before .before .before .befor
 pub check-spec : {M : Type 1} → statement M
 check-spec =
     tie.close
-    (tie.spec returns returns-2 returns-3 returns-4 returns-5 add-if6 returns-6 returns-7)
+    (tie.spec returns returns-2 returns-3 returns-4 add-need returns-5 returns-6 returns-7)
