@@ -1,8 +1,8 @@
 -- What the calls answer under a scheme, from what their callees answered: refused by a check, done, or forged. Assumes nothing.
-use mathlib.Core.Path.{_≡_, refl, sym, ap, _∙_}
+use mathlib.Core.Path.{_≡_, sym, ap, _∙_}
 use mathlib.Core.Bool.{Bool, true, false}
 use mathlib.Core.List.{List, _++_, append-nil}
-use Prim.Native.Nat.{ℕ, _+_, _-_, _≤_}
+use Prim.Native.Nat.{ℕ, _+_, _-_}
 use native.Mathlib.Omega.{arith}
 use lib.Dec.{ltb}
 use lib.ListN.{length, take, drop, replicate}
@@ -12,7 +12,6 @@ use Rattle.modes.specs.Blocks.{pick}
 use Rattle.modes.specs.Mode.{Opened, sealRun, openRun}
 use Rattle.steps.specs.Modes.{modeOf}
 use Rattle.sealing.specs.declared.schemes.Scheme.{Scheme}
-use Rattle.sealing.specs.Schemes.{Fits}
 use Rattle.sealing.specs.Checks.{checkOf}
 use Rattle.sealing.specs.Calls.{Told, refused, done, forged, judged, passed, sealed, opened, sealUnder, openUnder}
 use Rattle.sealing.proofs.Passed.{not-passed}

@@ -1,10 +1,9 @@
 -- The words of the demands: what is admitted, and what it means that a body seals to a run. Assumes nothing.
 use mathlib.Core.Path.{_≡_}
-use Prim.Native.Nat.{ℕ, _+_, _≤_}
+use Prim.Native.Nat.{ℕ, _≤_}
 use mathlib.Core.List.{List}
 use lib.ListN.{length}
 use Rattle.cells.specs.Cells.{Bytes}
-use Rattle.ciphers.specs.Ciphers.{blockOf}
 use Rattle.modes.specs.Blocks.{Block}
 use Rattle.sealing.specs.declared.schemes.Scheme.{Scheme}
 use Rattle.sealing.specs.declared.schemes.Named.the-variants.{Known}

@@ -1,15 +1,15 @@
 -- What PAEF's functions make is what figure 5 says. Assumes nothing.
-use mathlib.Core.Path.{_≡_, refl, sym, ap, ap₂, _∙_, subst, subst⁻¹}
+use mathlib.Core.Path.{_≡_, ap, _∙_, subst, subst⁻¹}
 use mathlib.Core.Bool.{Bool}
 use mathlib.Core.List.{List}
-use Prim.Native.Nat.{ℕ, _+_, _≤_}
+use Prim.Native.Nat.{ℕ, _+_}
 use native.Mathlib.Omega.{arith}
 use lib.ListN.{length, take}
 use Rattle.ciphers.specs.declared.Cipher.{Cipher}
 use Rattle.ciphers.specs.Ciphers.{blockOf}
 use Rattle.forkskinny.specs.declared.Forked.{Forked}
 use Rattle.forkskinny.specs.declared.Unforked.{Unforked}
-use Rattle.forkskinny.specs.ForkSkinny.{half, input, other}
+use Rattle.forkskinny.specs.ForkSkinny.{input, other}
 use Rattle.forkskinny.specs.Calls.{wants, forkBy, unforkBy}
 use Rattle.forkskinny.proofs.Forkcipher.{half-long, input-long, other-long}
 use Rattle.modes.specs.Blocks.{_⊕_}

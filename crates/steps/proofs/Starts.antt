@@ -7,7 +7,6 @@ use lib.ListN.{take, replicate}
 use Rattle.ciphers.specs.declared.Cipher.{Cipher}
 use Rattle.ciphers.specs.declared.Cipher.the-variants.{N64T192, N128T256}
 use Rattle.ciphers.specs.Ciphers.{blockOf}
-use Rattle.modes.specs.Mode.{Mode}
 use Rattle.modes.specs.Paef.{paef}
 use Rattle.modes.specs.Saef.{saef}
 use Rattle.steps.specs.declared.Kind.{Kind}

@@ -8,7 +8,6 @@ ghost use mathlib.Core.Path.{_≡_};
 ghost use Prim.Native.Nat.{_+_, _≤_};
 ghost use lib.ListN.{length, take};
 ghost use Rattle.ciphers.specs.Ciphers.{blockOf};
-ghost use Rattle.modes.specs.Mode.{Mode};
 ghost use Rattle.steps.specs.Modes.{modeOf, tailOf, stateOf};
 ghost use Rattle.steps.specs.Steps.{Stepped, Paired};
 

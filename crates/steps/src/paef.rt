@@ -9,7 +9,6 @@ ghost use mathlib.Core.Path.{_≡_};
 ghost use Prim.Native.Nat.{_+_, _≤_};
 ghost use lib.ListN.{length, take};
 ghost use Rattle.ciphers.specs.Ciphers.{blockOf};
-ghost use Rattle.modes.specs.Mode.{Mode};
 ghost use Rattle.modes.specs.Paef.{paefTweak, paefHead, paefBody, sumHalf, sumInput, sumOther, headSum};
 ghost use Rattle.steps.specs.declared.Kind.the-variants.{Paef};
 ghost use Rattle.steps.specs.Skinny.{skinny};

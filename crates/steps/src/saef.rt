@@ -9,7 +9,6 @@ ghost use mathlib.Core.Path.{_≡_};
 ghost use Prim.Native.Nat.{_+_, _≤_};
 ghost use lib.ListN.{length, take};
 ghost use Rattle.ciphers.specs.Ciphers.{blockOf};
-ghost use Rattle.modes.specs.Mode.{Mode};
 ghost use Rattle.modes.specs.Saef.{saefTweak, saefHead, saefBody, maskHalf, maskInput, maskOther};
 ghost use Rattle.steps.specs.declared.Kind.the-variants.{Saef};
 ghost use Rattle.steps.specs.Skinny.{skinny};

@@ -2,7 +2,6 @@
 use mathlib.Core.Path.{_≡_, ap, _∙_, subst}
 use mathlib.Core.List.{List}
 use Prim.Native.Nat.{ℕ, _-_, _≤_, _<_}
-use native.Mathlib.Omega.{arith}
 use lib.Dec.{lit≤, lit<}
 use lib.ListN.{length, take, drop, length-drop}
 use Rattle.ciphers.specs.declared.Cipher.{Cipher}

@@ -1,10 +1,10 @@
 -- A body sealed, as its loop keeps it: a turn, and the last block. Assumes nothing.
-use mathlib.Core.Path.{_≡_, refl, sym, ap, ap₂, _∙_, subst}
+use mathlib.Core.Path.{_≡_, refl, sym, ap, _∙_, subst}
 use mathlib.Core.Bool.{Bool, true}
-use mathlib.Core.List.{List, [], _++_}
+use mathlib.Core.List.{List, _++_}
 use Prim.Native.Nat.{ℕ, _+_, _-_, _≤_, _<_}
 use native.Mathlib.Omega.{arith}
-use lib.ListN.{length, take, drop, length-append}
+use lib.ListN.{length, take, drop}
 use lib.Seq.{length-take-le, take-take}
 use Rattle.ciphers.specs.declared.Cipher.{Cipher}
 use Rattle.ciphers.specs.Ciphers.{blockOf}

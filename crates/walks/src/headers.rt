@@ -5,12 +5,11 @@ use ciphers::Cipher;
 use steps::Kind;
 use steps::State;
 ghost use mathlib.Core.Path.{_≡_};
-ghost use mathlib.Core.Bool.{Bool};
 ghost use Prim.Native.Nat.{_+_, _≤_};
 ghost use lib.ListN.{length, take};
 ghost use Rattle.ciphers.specs.Ciphers.{blockOf};
 ghost use Rattle.modes.specs.Blocks.{full, pad};
-ghost use Rattle.modes.specs.Mode.{Mode, walk, headed};
+ghost use Rattle.modes.specs.Mode.{walk, headed};
 ghost use Rattle.steps.specs.Modes.{modeOf, tailOf, stateOf};
 
 // The block at the front of a part, not the last one.

@@ -14,7 +14,7 @@ ghost use Prim.Native.Nat.{_+_, _-_, _≤_, _<_};
 ghost use lib.ListN.{length, take, drop};
 ghost use Rattle.ciphers.specs.Ciphers.{blockOf};
 ghost use Rattle.modes.specs.Blocks.{same, ten};
-ghost use Rattle.modes.specs.Mode.{Mode, openLast, openRest};
+ghost use Rattle.modes.specs.Mode.{openLast, openRest};
 ghost use Rattle.steps.specs.Modes.{modeOf, tailOf, stateOf};
 
 // The block at the front of a part, not the last one.

@@ -10,9 +10,8 @@ ghost use mathlib.Core.List.{_++_};
 ghost use Prim.Native.Nat.{_+_, _≤_, _<_};
 ghost use lib.ListN.{length, take, drop};
 ghost use Rattle.ciphers.specs.Ciphers.{blockOf};
-ghost use Rattle.modes.specs.Mode.{Mode, sealLast, sealRest};
+ghost use Rattle.modes.specs.Mode.{sealLast, sealRest};
 ghost use Rattle.steps.specs.Modes.{modeOf, tailOf, stateOf};
-ghost use Rattle.steps.specs.Steps.{Stepped};
 
 // The block at the front of a part, not the last one.
 fn turn(

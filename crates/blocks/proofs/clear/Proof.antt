@@ -1,10 +1,10 @@
 -- `blocks::clear` meets its contract: its loop lays zeros over the part's front.
 -- Assumes nothing.
-use mathlib.Core.Path.{_≡_, refl, sym, _∙_, ap}
-use Prim.Native.Nat.{ℕ, _-_, _≤_}
+use mathlib.Core.Path.{sym}
+use Prim.Native.Nat.{_-_, _≤_}
 use native.Mathlib.Omega.{arith}
-use lib.ListN.{length, replicate, length-replicate, getD-replicate, length-set}
-use Rattle.blocks.proofs.Over.{over, Laid, laid-none, laid-more, laid-front}
+use lib.ListN.{replicate, length-replicate, getD-replicate}
+use Rattle.blocks.proofs.Over.{Laid, laid-none, laid-more, laid-front}
 use Rattle.blocks.proofs.clear.Statement.{statement}
 use Rattle.blocks.proofs.clear.Tie as tie
 

@@ -1,11 +1,10 @@
 -- `blocks::front` meets its contract: its loop lays the part's bytes over zeros.
 -- Assumes nothing.
-use mathlib.Core.Path.{_≡_, refl, _∙_, ap}
-use Prim.Native.Nat.{ℕ, _-_, _≤_}
+use mathlib.Core.Path.{_≡_, refl}
+use Prim.Native.Nat.{_-_, _≤_}
 use native.Mathlib.Omega.{arith}
-use lib.ListN.{length, replicate, length-replicate}
 use Rattle.blocks.proofs.Loaded.{drop-replicate}
-use Rattle.blocks.proofs.Over.{over, Laid, laid-none, laid-more}
+use Rattle.blocks.proofs.Over.{Laid, laid-none, laid-more}
 use Rattle.blocks.proofs.front.Statement.{statement}
 use Rattle.blocks.proofs.front.Tie as tie
 

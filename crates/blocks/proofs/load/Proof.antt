@@ -1,9 +1,7 @@
 -- `blocks::load` meets its contract: a short part by `load-short`, any other by `load-whole`.
 -- Assumes nothing.
 use borrow.Author.Needs.{needs}
-use mathlib.Core.Path.{_≡_, ap, _∙_}
 use native.Mathlib.Omega.{arith}
-use lib.ListN.{set}
 use Rattle.blocks.proofs.Loaded.{load-whole, load-short}
 use Rattle.blocks.proofs.load.Statement.{statement}
 use Rattle.blocks.proofs.load.Tie as tie

@@ -1,10 +1,9 @@
 -- `blocks::store` meets its contract: its loop lays the block over the part's front.
 -- Assumes nothing.
-use mathlib.Core.Path.{_≡_, refl, _∙_, ap}
-use Prim.Native.Nat.{ℕ, _-_, _≤_}
+use mathlib.Core.Path.{_≡_, refl}
+use Prim.Native.Nat.{_-_, _≤_}
 use native.Mathlib.Omega.{arith}
-use lib.ListN.{length, length-set}
-use Rattle.blocks.proofs.Over.{over, Laid, laid-none, laid-more}
+use Rattle.blocks.proofs.Over.{Laid, laid-none, laid-more}
 use Rattle.blocks.proofs.store.Statement.{statement}
 use Rattle.blocks.proofs.store.Tie as tie
 

@@ -1,12 +1,12 @@
 -- `blocks::xored` meets its contract: its loop lays the xor of the two over the first.
 -- Assumes nothing.
-use mathlib.Core.Path.{_≡_, refl, sym, _∙_, ap}
-use Prim.Native.Nat.{ℕ, _-_, _≤_, _<_}
+use mathlib.Core.Path.{_≡_, sym, _∙_}
+use Prim.Native.Nat.{_-_, _≤_, _<_}
 use native.Mathlib.Omega.{arith}
 use lib.ListN.{length}
 use Rattle.modes.specs.Blocks.{_⊕_}
 use Rattle.modes.proofs.Bytes.{getD-xor, xor-length}
-use Rattle.blocks.proofs.Over.{over, Laid, laid-none, laid-more, laid-all}
+use Rattle.blocks.proofs.Over.{Laid, laid-none, laid-more, laid-all}
 use Rattle.blocks.proofs.xored.Statement.{statement}
 use Rattle.blocks.proofs.xored.Tie as tie
 

@@ -30,30 +30,42 @@ body-of-requires c κs = search needs
 
 check-requires : tie.Need-check-requires
 check-requires c κs =
-    let a = c .before .before .before .before .before .before .before .args in
-    (c .before .before .before .before .before .before .before .pre, omega (arith, c .before .block-of .ensures, block-most (a .s .cipher)))
+    let start = c .before .before .before .before .before .before .before in
+    let a = start .args in
+    (start .pre, omega (arith, c .before .block-of .ensures, block-most (a .s .cipher)))
 
 returns : tie.Need-returns
 returns c =
-    let a = c .before .before .before .before .before .before .before .before .before .args in
-    open-refuses (a .s) (a .key .now) (a .nonce .now) (a .header .now) _ (c .before .before .before .block-of .ensures) _ (a .sealed .now) (a .room .now) _ _ (c .before .before .body-of .ensures) refl (c .before .check .ensures) (c .if1 .taken)
+    let after-body-of = c .before .before in
+    let after-block-of = after-body-of .before in
+    let start = after-block-of .before .before .before .before .before .before in
+    let a = start .args in
+    open-refuses (a .s) (a .key .now) (a .nonce .now) (a .header .now) _ (after-block-of .block-of .ensures) _ (a .sealed .now)
+    (a .room .now) _ _ (after-body-of .body-of .ensures) refl (c .before .check .ensures) (c .if1 .taken)
 
 front-requires : tie.Need-front-requires
 front-requires c κs =
-    let a = c .before .before .before .before .before .before .before .before .before .args in
+    let start = c .before .before .before .before .before .before .before .before .before in
+    let a = start .args in
     let p = check-passed (a .s) _ _ _ _ _ _ _ (sym (c .before .check .ensures) ∙ c .if1 .left) in
-    (omega arith, omega (arith, p .key-is, c .before .before .before .before .before .before .before .before .before .pre .key))
+    (omega arith, omega (arith, p .key-is, start .pre .key))
 
 open-requires : tie.Need-open-requires
 open-requires c κs =
-    let a = c .before .before .before .before .before .before .before .before .before .before .before .args in
-    let p = check-passed (a .s) _ _ _ _ _ _ _ (sym (c .before .before .before .check .ensures) ∙ c .before .before .if1 .left) in
-    let q = ltb-false (length (a .sealed .now)) (c .before .before .before .before .before .block-of .result) (check-long (a .s) _ _ _ _ _ _ _ (sym (c .before .before .before .check .ensures) ∙ c .before .before .if1 .left)) in (
-      omega (arith, p .nonce-is, c .before .before .before .before .before .before .before .before .before .before .before .pre .nonce),
-      omega (arith, p .header-fits, c .before .before .before .before .before .before .before .before .before .before .before .pre .header),
-      omega (arith, p .body-fits, c .before .before .before .before .before .before .before .before .before .before .before .pre .body, c .before .before .before .before .body-of .ensures, q, c .before .before .before .before .before .block-of .ensures, block-most (a .s .cipher)),
-      omega (arith, q, c .before .before .before .before .before .block-of .ensures),
-      omega (arith, p .room-fits, c .before .before .before .before .body-of .ensures, q, c .before .before .before .before .before .block-of .ensures),
+    let test = c .before .before in
+    let after-check = test .before in
+    let after-body-of = after-check .before in
+    let after-block-of = after-body-of .before in
+    let start = after-block-of .before .before .before .before .before .before in
+    let a = start .args in
+    let p = check-passed (a .s) _ _ _ _ _ _ _ (sym (after-check .check .ensures) ∙ test .if1 .left) in
+    let q = ltb-false (length (a .sealed .now)) (after-block-of .block-of .result)
+    (check-long (a .s) _ _ _ _ _ _ _ (sym (after-check .check .ensures) ∙ test .if1 .left)) in (
+      omega (arith, p .nonce-is, start .pre .nonce),
+      omega (arith, p .header-fits, start .pre .header),
+      omega (arith, p .body-fits, start .pre .body, after-body-of .body-of .ensures, q, after-block-of .block-of .ensures, block-most (a .s .cipher)),
+      omega (arith, q, after-block-of .block-of .ensures),
+      omega (arith, p .room-fits, after-body-of .body-of .ensures, q, after-block-of .block-of .ensures),
     )
 
 same-length : tie.Need-same-length
@@ -61,16 +73,27 @@ same-length c = search needs
 
 returns-2 : tie.Need-returns-2
 returns-2 c =
-    let a = c .before .before .before .before .before .before .before .before .before .before .before .before .before .before .before .args in
-    let p = check-passed (a .s) _ _ _ _ _ _ _ (sym (c .before .before .before .before .before .before .before .check .ensures) ∙ c .before .before .before .before .before .before .if1 .left) in
-    open-does (a .s) (a .key .now) (a .nonce .now) (a .header .now) _ (c .before .before .before .before .before .before .before .before .before .block-of .ensures) _ (a .sealed .now) (a .room .now) _ _ (c .before .before .before .before .before .before .before .before .body-of .ensures) refl (c .before .before .before .before .before .before .before .check .ensures)
-    (c .before .before .before .before .before .before .if1 .left) _ (key-whole (a .key .now) _ (omega (arith, p .key-is, c .before .before .before .before .before .before .before .before .before .before .before .before .before .before .before .pre .key)) (c .before .before .before .before .before .front .ensures)) _ _
-    (c .before .before .before .«open» .ensures .0) (c .before .before .before .«open» .ensures .1 .0) (c .if2 .taken)
+    let after-open = c .before .before .before in
+    let after-front = after-open .before .before in
+    let test = after-front .before in
+    let after-check = test .before in
+    let after-body-of = after-check .before in
+    let after-block-of = after-body-of .before in
+    let start = after-block-of .before .before .before .before .before .before in
+    let a = start .args in
+    let p = check-passed (a .s) _ _ _ _ _ _ _ (sym (after-check .check .ensures) ∙ test .if1 .left) in
+    open-does (a .s) (a .key .now) (a .nonce .now) (a .header .now) _ (after-block-of .block-of .ensures) _ (a .sealed .now)
+    (a .room .now) _ _ (after-body-of .body-of .ensures) refl (after-check .check .ensures)
+    (test .if1 .left) _ (key-whole (a .key .now) _ (omega (arith, p .key-is, start .pre .key)) (after-front .front .ensures)) _ _
+    (after-open .«open» .ensures .0) (after-open .«open» .ensures .1 .0) (c .if2 .taken)
 
 clear-requires : tie.Need-clear-requires
 clear-requires c κs =
-    let a = c .before .before .before .before .before .before .before .before .before .before .before .before .before .before .before .before .args in
-    let p = check-passed (a .s) _ _ _ _ _ _ _ (sym (c .before .before .before .before .before .before .before .before .check .ensures) ∙ c .before .before .before .before .before .before .before .if1 .left) in
+    let test = c .before .before .before .before .before .before .before in
+    let after-check = test .before in
+    let start = after-check .before .before .before .before .before .before .before .before in
+    let a = start .args in
+    let p = check-passed (a .s) _ _ _ _ _ _ _ (sym (after-check .check .ensures) ∙ test .if1 .left) in
     omega arith
 
 same-length-2 : tie.Need-same-length-2
@@ -78,11 +101,22 @@ same-length-2 c = search needs
 
 returns-3 : tie.Need-returns-3
 returns-3 c =
-    let a = c .before .before .before .before .before .before .before .before .before .before .before .before .before .before .before .before .before .before .before .args in
-    let p = check-passed (a .s) _ _ _ _ _ _ _ (sym (c .before .before .before .before .before .before .before .before .before .before .before .check .ensures) ∙ c .before .before .before .before .before .before .before .before .before .before .if1 .left) in
-    open-forges (a .s) (a .key .now) (a .nonce .now) (a .header .now) _ (c .before .before .before .before .before .before .before .before .before .before .before .before .before .block-of .ensures) _ (a .sealed .now) (a .room .now) _ _ (c .before .before .before .before .before .before .before .before .before .before .before .before .body-of .ensures) refl (c .before .before .before .before .before .before .before .before .before .before .before .check .ensures)
-    (c .before .before .before .before .before .before .before .before .before .before .if1 .left) _ (key-whole (a .key .now) _ (omega (arith, p .key-is, c .before .before .before .before .before .before .before .before .before .before .before .before .before .before .before .before .before .before .before .pre .key)) (c .before .before .before .before .before .before .before .before .before .front .ensures)) _ _
-    (c .before .before .before .before .before .before .before .«open» .ensures .0) (c .before .before .before .before .before .before .before .«open» .ensures .1 .0) (c .before .before .before .before .if2 .left) _ (c .before .before .before .before .before .before .before .«open» .ensures .1 .1) (c .before .before .clear .ensures)
+    let after-clear = c .before .before in
+    let test2 = after-clear .before .before in
+    let after-open = test2 .before .before .before in
+    let after-front = after-open .before .before in
+    let test = after-front .before in
+    let after-check = test .before in
+    let after-body-of = after-check .before in
+    let after-block-of = after-body-of .before in
+    let start = after-block-of .before .before .before .before .before .before in
+    let a = start .args in
+    let p = check-passed (a .s) _ _ _ _ _ _ _ (sym (after-check .check .ensures) ∙ test .if1 .left) in
+    open-forges (a .s) (a .key .now) (a .nonce .now) (a .header .now) _ (after-block-of .block-of .ensures) _ (a .sealed .now)
+    (a .room .now) _ _ (after-body-of .body-of .ensures) refl (after-check .check .ensures)
+    (test .if1 .left) _ (key-whole (a .key .now) _ (omega (arith, p .key-is, start .pre .key)) (after-front .front .ensures)) _ _
+    (after-open .«open» .ensures .0) (after-open .«open» .ensures .1 .0) (test2 .if2 .left) _ (after-open .«open» .ensures .1 .1)
+    (after-clear .clear .ensures)
 
 pub open-under-spec : {M : Type 1} → statement M
 open-under-spec =

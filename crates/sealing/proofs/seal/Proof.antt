@@ -15,7 +15,10 @@ enum-known-named : tie.Need-enum-known-named
 enum-known-named c = search needs
 
 seal-under-requires : tie.Need-seal-under-requires
-seal-under-requires c κs = named-fits _ _ (sym (c .before .before .before .before .scheme-of .ensures) ∙ c .before .before .named .given .1)
+seal-under-requires c κs =
+    let after-named = c .before .before in
+    let after-scheme-of = after-named .before .before in
+    named-fits _ _ (sym (after-scheme-of .scheme-of .ensures) ∙ after-named .named .given .1)
 
 enum-told : tie.Need-enum-told
 enum-told c = search needs
@@ -26,15 +29,25 @@ same-length c = search needs
 returns : tie.Need-returns
 unfolding sealOf
 returns c =
-    let a = c .before .before .before .before .before .before .before .before .before .before .before .before .before .args in
-    c .before .before .seal-under .ensures
-    ∙ sym (ap (λ (m : Named). under m (λ (s : Scheme). sealUnder s (a .key .now) (a .nonce .now) (a .header .now) (a .body .now) (a .room .now)) (a .room .now)) (sym (c .before .before .before .before .before .before .before .scheme-of .ensures) ∙ c .before .before .before .before .before .named .given .1))
+    let after-seal-under = c .before .before in
+    let after-named = after-seal-under .before .before .before in
+    let after-scheme-of = after-named .before .before in
+    let start = after-scheme-of .before .before .before .before .before .before in
+    let a = start .args in
+    after-seal-under .seal-under .ensures
+    ∙ sym (ap (λ (m : Named). under m
+    (λ (s : Scheme). sealUnder s (a .key .now) (a .nonce .now) (a .header .now) (a .body .now) (a .room .now)) (a .room .now))
+    (sym (after-scheme-of .scheme-of .ensures) ∙ after-named .named .given .1))
 
 returns-2 : tie.Need-returns-2
 unfolding sealOf
 returns-2 c =
-    let a = c .before .before .before .before .before .before .before .before .args in
-    sym (ap (λ (m : Named). under m (λ (s : Scheme). sealUnder s (a .key .now) (a .nonce .now) (a .header .now) (a .body .now) (a .room .now)) (a .room .now)) (sym (c .before .before .scheme-of .ensures) ∙ c .enum-told .given .1))
+    let after-scheme-of = c .before .before in
+    let start = after-scheme-of .before .before .before .before .before .before in
+    let a = start .args in
+    sym (ap (λ (m : Named). under m
+    (λ (s : Scheme). sealUnder s (a .key .now) (a .nonce .now) (a .header .now) (a .body .now) (a .room .now)) (a .room .now))
+    (sym (after-scheme-of .scheme-of .ensures) ∙ c .enum-told .given .1))
 
 pub seal-spec : {M : Type 1} → statement M
 seal-spec =

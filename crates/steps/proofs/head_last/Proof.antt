@@ -14,33 +14,42 @@ enum-told c = search needs
 
 head-last-requires : tie.Need-head-last-requires
 head-last-requires c κs =
-    let a = c .before .before .before .args in
-    (subst (λ (k : Kind). length (a .nonce .now) + tailOf k ≡ blockOf (a .c)) (c .enum-told .given .1) (c .before .before .before .pre .0), c .before .before .before .pre .1)
+    let start = c .before .before .before in
+    let a = start .args in (
+      subst (λ (k : Kind). length (a .nonce .now) + tailOf k ≡ blockOf (a .c)) (c .enum-told .given .1)
+          (start .pre .0),
+      start .pre .1,
+    )
 
 enum-told-2 : tie.Need-enum-told-2
 enum-told-2 c = search needs
 
 head-last-requires-2 : tie.Need-head-last-requires-2
 head-last-requires-2 c κs =
-    let a = c .before .before .before .args in
-    subst (λ (k : Kind). length (a .nonce .now) + tailOf k ≡ blockOf (a .c)) (c .enum-told2 .given .1) (c .before .before .before .pre .0)
+    let start = c .before .before .before in
+    let a = start .args in
+    subst (λ (k : Kind). length (a .nonce .now) + tailOf k ≡ blockOf (a .c)) (c .enum-told2 .given .1) (start .pre .0)
 
 returns : tie.Need-returns
 returns c =
-    let a = c .before .before .before .before .args in
+    let start = c .before .before .before .before in
+    let a = start .args in
     subst⁻¹
     (λ (k : Kind).
-    (stateOf k (blockOf (a .c)) (c .head-last .result) ≡ modeOf k (a .c) (a .key) (a .nonce .now) .headLast (a .empty) (a .full) (stateOf k (blockOf (a .c)) (a .s)) (take (blockOf (a .c)) (a .x)))
+    (stateOf k (blockOf (a .c)) (c .head-last .result) ≡ modeOf k (a .c) (a .key) (a .nonce .now) .headLast (a .empty) (a .full)
+    (stateOf k (blockOf (a .c)) (a .s)) (take (blockOf (a .c)) (a .x)))
     × (c .head-last .result .number ≤ 1))
     (c .before .enum-told .given .1)
     (c .head-last .ensures)
 
 returns-2 : tie.Need-returns-2
 returns-2 c =
-    let a = c .before .before .before .before .args in
+    let start = c .before .before .before .before in
+    let a = start .args in
     subst⁻¹
     (λ (k : Kind).
-    (stateOf k (blockOf (a .c)) (c .head-last2 .result) ≡ modeOf k (a .c) (a .key) (a .nonce .now) .headLast (a .empty) (a .full) (stateOf k (blockOf (a .c)) (a .s)) (take (blockOf (a .c)) (a .x)))
+    (stateOf k (blockOf (a .c)) (c .head-last2 .result) ≡ modeOf k (a .c) (a .key) (a .nonce .now) .headLast (a .empty) (a .full)
+    (stateOf k (blockOf (a .c)) (a .s)) (take (blockOf (a .c)) (a .x)))
     × (c .head-last2 .result .number ≤ 1))
     (c .before .enum-told2 .given .1)
     (c .head-last2 .ensures)

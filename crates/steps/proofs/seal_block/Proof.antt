@@ -1,8 +1,7 @@
 -- `steps::seal_block` meets its contract: by the mode. Assumes nothing.
 use mathlib.Core.Path.{subst, subst⁻¹, _≡_}
-use mathlib.Core.List.{List}
-use Prim.Native.Nat.{ℕ, _+_, _≤_}
-use lib.ListN.{length, take}
+use Prim.Native.Nat.{_+_}
+use lib.ListN.{length}
 use Rattle.ciphers.specs.Ciphers.{blockOf}
 use Rattle.steps.specs.declared.Kind.{Kind}
 use Rattle.steps.specs.Modes.{modeOf, tailOf}
@@ -15,30 +14,42 @@ enum-told : tie.Need-enum-told
 enum-told c = search needs
 
 seal-block-requires : tie.Need-seal-block-requires
-seal-block-requires c κs = (subst (λ (k : Kind). length (c .before .before .before .args .nonce .now) + tailOf k ≡ blockOf (c .before .before .before .args .c)) (c .enum-told .given .1) (c .before .before .before .pre .0), c .before .before .before .pre .1)
+seal-block-requires c κs =
+    let start = c .before .before .before in (
+      subst (λ (k : Kind). length (start .args .nonce .now) + tailOf k ≡ blockOf (start .args .c)) (c .enum-told .given .1)
+          (start .pre .0),
+      start .pre .1,
+    )
 
 enum-told-2 : tie.Need-enum-told-2
 enum-told-2 c = search needs
 
 seal-block-requires-2 : tie.Need-seal-block-requires-2
-seal-block-requires-2 c κs = subst (λ (k : Kind). length (c .before .before .before .args .nonce .now) + tailOf k ≡ blockOf (c .before .before .before .args .c)) (c .enum-told2 .given .1) (c .before .before .before .pre .0)
+seal-block-requires-2 c κs =
+    let start = c .before .before .before in
+    subst (λ (k : Kind). length (start .args .nonce .now) + tailOf k ≡ blockOf (start .args .c)) (c .enum-told2 .given .1)
+    (start .pre .0)
 
 returns : tie.Need-returns
 returns c =
-    let a = c .before .before .before .before .args in
+    let start = c .before .before .before .before in
+    let a = start .args in
     subst⁻¹
     (λ (k : Kind).
-    Stepped k (blockOf (a .c)) (modeOf k (a .c) (a .key) (a .nonce .now) .out) (modeOf k (a .c) (a .key) (a .nonce .now) .next) (a .s) (a .x)
+    Stepped k (blockOf (a .c)) (modeOf k (a .c) (a .key) (a .nonce .now) .out) (modeOf k (a .c) (a .key) (a .nonce .now) .next)
+    (a .s) (a .x)
     (c .seal-block .result .out) (c .seal-block .result .next))
     (c .before .enum-told .given .1)
     (c .seal-block .ensures)
 
 returns-2 : tie.Need-returns-2
 returns-2 c =
-    let a = c .before .before .before .before .args in
+    let start = c .before .before .before .before in
+    let a = start .args in
     subst⁻¹
     (λ (k : Kind).
-    Stepped k (blockOf (a .c)) (modeOf k (a .c) (a .key) (a .nonce .now) .out) (modeOf k (a .c) (a .key) (a .nonce .now) .next) (a .s) (a .x)
+    Stepped k (blockOf (a .c)) (modeOf k (a .c) (a .key) (a .nonce .now) .out) (modeOf k (a .c) (a .key) (a .nonce .now) .next)
+    (a .s) (a .x)
     (c .seal-block2 .result .out) (c .seal-block2 .result .next))
     (c .before .enum-told2 .given .1)
     (c .seal-block2 .ensures)

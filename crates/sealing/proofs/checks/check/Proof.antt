@@ -15,26 +15,72 @@ returns-2 c = simp (eq-eqb _ _ (c .before .before .if1 .left), ne-eqb _ _ (c .if
 
 returns-3 : tie.Need-returns-3
 unfolding checkOf
-returns-3 c = simp (eq-eqb _ _ (c .before .before .before .before .if1 .left), eq-eqb _ _ (c .before .before .if2 .left), lt-ltb _ _ (c .if3 .taken))
+returns-3 c =
+    let test2 = c .before .before in
+    let test = test2 .before .before in
+    simp (eq-eqb _ _ (test .if1 .left), eq-eqb _ _ (test2 .if2 .left), lt-ltb _ _ (c .if3 .taken))
 
 returns-4 : tie.Need-returns-4
 unfolding checkOf
-returns-4 c = simp (eq-eqb _ _ (c .before .before .before .before .before .before .if1 .left), eq-eqb _ _ (c .before .before .before .before .if2 .left), le-ltb _ _ (c .before .before .if3 .left), lt-ltb _ _ (c .if4 .taken))
+returns-4 c =
+    let test3 = c .before .before in
+    let test2 = test3 .before .before in
+    let test = test2 .before .before in
+    simp (eq-eqb _ _ (test .if1 .left), eq-eqb _ _ (test2 .if2 .left), le-ltb _ _ (test3 .if3 .left), lt-ltb _ _ (c .if4 .taken))
 
 add-need : tie.Need-add-need
-add-need c = omega (arith, c .before .before .before .before .before .before .before .before .pre .0 .body, c .before .before .before .before .before .before .before .before .pre .1, c .if4 .left)
+add-need c =
+    let start = c .before .before .before .before .before .before .before .before in
+    omega (arith, start .pre .0 .body, start .pre .1, c .if4 .left)
 
 returns-5 : tie.Need-returns-5
 unfolding checkOf
-returns-5 c = simp (eq-eqb _ _ (c .before .before .before .before .before .before .before .if1 .left), eq-eqb _ _ (c .before .before .before .before .before .if2 .left), le-ltb _ _ (c .before .before .before .if3 .left), le-ltb _ _ (c .before .if4 .left), c .if5 .taken)
+returns-5 c =
+    let test3 = c .before .before .before in
+    let test2 = test3 .before .before in
+    let test = test2 .before .before in
+    simp (
+      eq-eqb _ _ (test .if1 .left),
+      eq-eqb _ _ (test2 .if2 .left),
+      le-ltb _ _ (test3 .if3 .left),
+      le-ltb _ _
+          (c .before .if4 .left),
+      c .if5 .taken,
+    )
 
 returns-6 : tie.Need-returns-6
 unfolding checkOf
-returns-6 c = simp (eq-eqb _ _ (c .before .before .before .before .before .before .before .before .if1 .left), eq-eqb _ _ (c .before .before .before .before .before .before .if2 .left), le-ltb _ _ (c .before .before .before .before .if3 .left), le-ltb _ _ (c .before .before .if4 .left), c .before .if5 .left, lt-ltb _ _ (c .if6 .taken))
+returns-6 c =
+    let test4 = c .before .before in
+    let test3 = test4 .before .before in
+    let test2 = test3 .before .before in
+    let test = test2 .before .before in
+    simp (
+      eq-eqb _ _ (test .if1 .left),
+      eq-eqb _ _ (test2 .if2 .left),
+      le-ltb _ _ (test3 .if3 .left),
+      le-ltb _ _
+          (test4 .if4 .left),
+      c .before .if5 .left,
+      lt-ltb _ _ (c .if6 .taken),
+    )
 
 returns-7 : tie.Need-returns-7
 unfolding checkOf
-returns-7 c = simp (eq-eqb _ _ (c .before .before .before .before .before .before .before .before .if1 .left), eq-eqb _ _ (c .before .before .before .before .before .before .if2 .left), le-ltb _ _ (c .before .before .before .before .if3 .left), le-ltb _ _ (c .before .before .if4 .left), c .before .if5 .left, le-ltb _ _ (c .if6 .left))
+returns-7 c =
+    let test4 = c .before .before in
+    let test3 = test4 .before .before in
+    let test2 = test3 .before .before in
+    let test = test2 .before .before in
+    simp (
+      eq-eqb _ _ (test .if1 .left),
+      eq-eqb _ _ (test2 .if2 .left),
+      le-ltb _ _ (test3 .if3 .left),
+      le-ltb _ _
+          (test4 .if4 .left),
+      c .before .if5 .left,
+      le-ltb _ _ (c .if6 .left),
+    )
 
 pub check-spec : {M : Type 1} → statement M
 check-spec =

@@ -1,5 +1,4 @@
 -- `sealing::schemes::scheme_of` meets its contract: test by test. Assumes nothing.
-use mathlib.Core.Path.{sym}
 use borrow.Author.Tests.{eq-eqb, ne-eqb}
 use Rattle.sealing.specs.Schemes.{schemeOf}
 use Rattle.sealing.proofs.schemes.scheme_of.Statement.{statement}

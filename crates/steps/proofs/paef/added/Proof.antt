@@ -17,8 +17,10 @@ add-t7 c = search needs
 returns : tie.Need-returns
 unfolding addedOf
 returns c =
-    let a = c .before .before .before .before .before .args in
-    ap (λ (l : List ℕ). record { out = a .p .first; next = record { mask = l; number = a .s .number + 1; first = false } }) (c .before .xored .ensures)
+    let start = c .before .before .before .before .before in
+    let a = start .args in
+    ap (λ (l : List ℕ). record { out = a .p .first; next = record { mask = l; number = a .s .number + 1; first = false } })
+    (c .before .xored .ensures)
 
 pub added-spec : {M : Type 1} → statement M
 added-spec = tie.close (tie.spec xored-requires add-t7 returns)

@@ -14,8 +14,12 @@ unfork-by-requires c κs = search needs
 
 returns : tie.Need-returns
 returns c =
-    let a = c .before .before .before .before .before .args in
-    back-paired (a .c) (a .key) (a .nonce .now) (a .flag) (a .s) (a .x) _ (c .before .before .before .before .before .pre .0) (c .before .before .before .tweak .ensures) _ (c .before .before .unfork-by .ensures)
+    let after-unfork-by = c .before .before in
+    let after-tweak = after-unfork-by .before in
+    let start = after-tweak .before .before in
+    let a = start .args in
+    back-paired (a .c) (a .key) (a .nonce .now) (a .flag) (a .s) (a .x) _ (start .pre .0) (after-tweak .tweak .ensures) _
+    (after-unfork-by .unfork-by .ensures)
 
 pub back-spec : {M : Type 1} → statement M
 back-spec = tie.close (tie.spec tweak-requires unfork-by-requires returns)

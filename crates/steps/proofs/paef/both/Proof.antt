@@ -14,8 +14,12 @@ fork-by-requires c κs = search needs
 
 returns : tie.Need-returns
 returns c =
-    let a = c .before .before .before .before .before .args in
-    both-paired (a .c) (a .key) (a .nonce .now) (a .flag) (a .s) (a .x) _ (c .before .before .before .before .before .pre .0) (c .before .before .before .tweak .ensures) _ (c .before .before .fork-by .ensures)
+    let after-fork-by = c .before .before in
+    let after-tweak = after-fork-by .before in
+    let start = after-tweak .before .before in
+    let a = start .args in
+    both-paired (a .c) (a .key) (a .nonce .now) (a .flag) (a .s) (a .x) _ (start .pre .0) (after-tweak .tweak .ensures) _
+    (after-fork-by .fork-by .ensures)
 
 pub both-spec : {M : Type 1} → statement M
 both-spec = tie.close (tie.spec tweak-requires fork-by-requires returns)

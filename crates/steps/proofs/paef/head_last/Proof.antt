@@ -22,11 +22,13 @@ head-sum-requires c κs = search needs
 returns : tie.Need-returns
 unfolding paef
 returns c =
-    let a = c .before .before .before .args in
+    let start = c .before .before .before in
+    let a = start .args in
     let n = blockOf (a .c) in (
       ap (λ (l : List ℕ). record { sum = l; number = 1 })
           (c .head-sum .ensures
-          ∙ ap (λ (f : ℕ). headSum n (skinny (a .c) (a .key)) (a .nonce .now) f (stateOf Paef n (a .s)) (take n (a .x))) (c .before .head-flag .ensures .0)),
+          ∙ ap (λ (f : ℕ). headSum n (skinny (a .c) (a .key)) (a .nonce .now) f (stateOf Paef n (a .s)) (take n (a .x)))
+          (c .before .head-flag .ensures .0)),
       omega arith,
     )
 

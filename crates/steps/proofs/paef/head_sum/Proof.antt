@@ -17,8 +17,12 @@ xored-requires c κs = search needs
 
 returns : tie.Need-returns
 returns c =
-    let a = c .before .before .before .before .before .before .args in
-    head-is (a .c) (a .key) (a .nonce .now) (a .flag) (a .s) (a .x) _ (c .before .before .before .before .before .before .pre .0) (c .before .before .before .before .tweak .ensures) _ _ (c .before .before .before .fork-by .ensures) (c .xored .ensures)
+    let after-fork-by = c .before .before .before in
+    let after-tweak = after-fork-by .before in
+    let start = after-tweak .before .before in
+    let a = start .args in
+    head-is (a .c) (a .key) (a .nonce .now) (a .flag) (a .s) (a .x) _ (start .pre .0) (after-tweak .tweak .ensures) _ _
+    (after-fork-by .fork-by .ensures) (c .xored .ensures)
 
 pub head-sum-spec : {M : Type 1} → statement M
 head-sum-spec = tie.close (tie.spec tweak-requires fork-by-requires xored-requires returns)

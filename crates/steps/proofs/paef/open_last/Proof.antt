@@ -15,8 +15,11 @@ back-requires c κs = search needs
 
 returns : tie.Need-returns
 returns c =
-    let a = c .before .before .before .before .before .args in
-    unlast-paired _ _ _ (a .full) _ (c .before .body-flag .ensures .0) (a .s) (a .x) _ (c .before .before .xored .ensures) _ (c .back .ensures)
+    let after-xored = c .before .before in
+    let start = after-xored .before .before .before in
+    let a = start .args in
+    unlast-paired _ _ _ (a .full) _ (c .before .body-flag .ensures .0) (a .s) (a .x) _ (after-xored .xored .ensures) _
+    (c .back .ensures)
 
 pub open-last-spec : {M : Type 1} → statement M
 open-last-spec = tie.close (tie.spec xored-requires body-flag-requires back-requires returns)

@@ -16,8 +16,12 @@ xored-requires c κs = search needs
 
 returns : tie.Need-returns
 returns c =
-    let a = c .before .before .before .before .before .before .before .args in
-    last-paired _ _ _ (a .full) _ (c .before .before .before .before .before .body-flag .ensures .0) (a .s) (a .x) _ (c .before .before .before .before .both .ensures) _ (c .xored .ensures) (omega (arith, c .xored .ok))
+    let after-both = c .before .before .before .before in
+    let after-body-flag = after-both .before in
+    let start = after-body-flag .before .before in
+    let a = start .args in
+    last-paired _ _ _ (a .full) _ (after-body-flag .body-flag .ensures .0) (a .s) (a .x) _ (after-both .both .ensures) _
+    (c .xored .ensures) (omega (arith, c .xored .ok))
 
 pub seal-last-spec : {M : Type 1} → statement M
 seal-last-spec = tie.close (tie.spec body-flag-requires both-requires xored-requires returns)

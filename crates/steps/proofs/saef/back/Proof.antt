@@ -17,8 +17,13 @@ unfork-by-requires c κs = search needs
 
 returns : tie.Need-returns
 returns c =
-    let a = c .before .before .before .before .before .before .before .args in
-    back-paired (a .c) (a .key) (a .nonce .now) (a .flag) (a .s) (a .x) _ _ (c .before .before .before .before .before .before .before .pre .0) (c .before .before .before .before .before .tweak .ensures) (c .before .before .before .xored .ensures) _ (c .before .before .unfork-by .ensures)
+    let after-unfork-by = c .before .before in
+    let after-xored = after-unfork-by .before in
+    let after-tweak = after-xored .before .before in
+    let start = after-tweak .before .before in
+    let a = start .args in
+    back-paired (a .c) (a .key) (a .nonce .now) (a .flag) (a .s) (a .x) _ _ (start .pre .0) (after-tweak .tweak .ensures)
+    (after-xored .xored .ensures) _ (after-unfork-by .unfork-by .ensures)
 
 pub back-spec : {M : Type 1} → statement M
 back-spec = tie.close (tie.spec tweak-requires xored-requires unfork-by-requires returns)

@@ -23,11 +23,13 @@ head-delta-requires c κs = search needs
 returns : tie.Need-returns
 unfolding saef
 returns c =
-    let a = c .before .before .before .args in
+    let start = c .before .before .before in
+    let a = start .args in
     let n = blockOf (a .c) in (
       ap (λ (l : List ℕ). record { delta = l; first = false })
           (c .head-delta .ensures
-          ∙ ap (λ (f : ℕ). maskHalf n (skinny (a .c) (a .key)) (a .nonce .now) 0 f (stateOf Saef n (a .s)) (take n (a .x))) (c .before .head-flag .ensures .0)),
+          ∙ ap (λ (f : ℕ). maskHalf n (skinny (a .c) (a .key)) (a .nonce .now) 0 f (stateOf Saef n (a .s)) (take n (a .x)))
+          (c .before .head-flag .ensures .0)),
       omega arith,
     )
 

@@ -15,8 +15,10 @@ xored-requires c κs = search needs
 returns : tie.Need-returns
 unfolding movedOf
 returns c =
-    let a = c .before .before .before .before .args in (
-      ap (λ (l : List ℕ). record { out = l; next = record { mask = a .p .second; number = a .s .number; first = false } }) (c .xored .ensures),
+    let start = c .before .before .before .before in
+    let a = start .args in (
+      ap (λ (l : List ℕ). record { out = l; next = record { mask = a .p .second; number = a .s .number; first = false } })
+          (c .xored .ensures),
       omega (arith, c .xored .ok),
     )
 

@@ -5,7 +5,6 @@ use native.Mathlib.Omega.{arith}
 use lib.ListN.{length}
 use Rattle.modes.specs.Blocks.{full}
 use Rattle.ciphers.specs.Ciphers.{blockOf}
-use Rattle.modes.specs.Mode.{Mode}
 use Rattle.steps.specs.Modes.{modeOf, stateOf}
 use Rattle.walks.proofs.Places.{block-most, loaded}
 use borrow.Author.Needs.{needs}
@@ -26,12 +25,19 @@ head-last-requires c κs = search needs
 
 returns : tie.Need-returns
 returns c =
-    let a = c .before .before .before .before .before .before .args in
+    let after-is-full = c .before .before in
+    let after-block-of = after-is-full .before in
+    let start = after-block-of .before .before .before in
+    let a = start .args in
     let n = blockOf (a .c) in
-    let e = c .before .before .before .block-of .ensures in
-    let f = c .before .before .is-full .ensures ∙ ap (λ (m : ℕ). full m (length (a .part .now))) e in
-    let l = loaded _ n _ (a .part .now) e (c .before .load .ensures) in
-    (c .head-last .ensures .0 ∙ (λ i. modeOf (a .k) (a .c) (a .key) (a .nonce .now) .headLast (a .empty) (f i) (stateOf (a .k) n (a .s)) (l i)), c .head-last .ensures .1)
+    let e = after-block-of .block-of .ensures in
+    let f = after-is-full .is-full .ensures ∙ ap (λ (m : ℕ). full m (length (a .part .now))) e in
+    let l = loaded _ n _ (a .part .now) e (c .before .load .ensures) in (
+      c .head-last .ensures .0 ∙
+          (λ i. modeOf (a .k) (a .c) (a .key) (a .nonce .now) .headLast (a .empty) (f i) (stateOf (a .k) n (a .s))
+          (l i)),
+      c .head-last .ensures .1,
+    )
 
 pub end-spec : {M : Type 1} → statement M
 end-spec =

@@ -3,7 +3,7 @@ use mathlib.Core.Path.{sym, ap, _∙_}
 use mathlib.Core.Bool.{Bool}
 use native.Mathlib.Omega.{arith}
 use Rattle.ciphers.specs.Ciphers.{blockOf}
-use Rattle.modes.specs.Mode.{Mode, walk, headed}
+use Rattle.modes.specs.Mode.{walk, headed}
 use Rattle.modes.proofs.Rest.{headed-skip, headed-none, headed-some}
 use Rattle.steps.specs.Modes.{modeOf}
 use borrow.Author.Needs.{needs}

@@ -2,7 +2,6 @@
 use mathlib.Core.Path.{ap, _∙_}
 use native.Mathlib.Omega.{arith}
 use Rattle.ciphers.specs.Ciphers.{blockOf}
-use Rattle.modes.specs.Mode.{Mode}
 use Rattle.steps.specs.Modes.{modeOf, stateOf}
 use Rattle.walks.proofs.Places.{block-most, loaded-whole}
 use borrow.Author.Needs.{needs}
@@ -20,9 +19,15 @@ head-requires c κs = search needs
 
 returns : tie.Need-returns
 returns c =
-    let a = c .before .before .before .before .before .args in
-    let l = loaded-whole _ (blockOf (a .c)) _ (a .part .now) (c .before .before .block-of .ensures) (c .before .load .ensures) (c .before .before .before .before .before .pre .2) in
-    (c .head .ensures .0 ∙ ap (modeOf (a .k) (a .c) (a .key) (a .nonce .now) .head (stateOf (a .k) (blockOf (a .c)) (a .s))) l, c .head .ensures .1)
+    let after-block-of = c .before .before in
+    let start = after-block-of .before .before .before in
+    let a = start .args in
+    let l = loaded-whole _ (blockOf (a .c)) _ (a .part .now) (after-block-of .block-of .ensures) (c .before .load .ensures)
+    (start .pre .2) in (
+      c .head .ensures .0 ∙ ap
+          (modeOf (a .k) (a .c) (a .key) (a .nonce .now) .head (stateOf (a .k) (blockOf (a .c)) (a .s))) l,
+      c .head .ensures .1,
+    )
 
 pub turn-spec : {M : Type 1} → statement M
 turn-spec = tie.close (tie.spec block-of-requires load-requires head-requires returns)

@@ -37,10 +37,11 @@ part-turn-end c = omega arith
 
 turn-requires : tie.Need-turn-requires Inv-loop μ-loop
 turn-requires c κs =
+    let start = c .before .before .before .before .before .before .before in
     let l = c .before .before in
-    let a = c .before .before .before .before .before .before .before .args in (
-      c .before .before .before .before .before .before .before .pre .0,
-      omega (arith, l .loop .inv .number, l .loop .inv .inside, c .before .before .before .before .before .before .before .pre .1),
+    let a = start .args in (
+      start .pre .0,
+      omega (arith, l .loop .inv .number, l .loop .inv .inside, start .pre .1),
       omega (arith, part-long (l .loop .at) (a .header .now), c .before .loop-test .taken, l .loop .inv .size),
     )
 
@@ -48,10 +49,17 @@ add-at : tie.Need-add-at Inv-loop μ-loop
 add-at c = omega (arith, c .before .before .loop-test .taken, c .before .before .before .loop .inv .inside)
 
 loop-less : tie.Need-loop-less Inv-loop μ-loop
-loop-less c = omega (arith, c .before .before .loop-test .taken, c .before .before .before .loop .inv .size, block-some (c .before .before .before .before .before .before .before .before .args .c))
+loop-less c =
+    let in-loop = c .before .before in
+    let at-loop = in-loop .before in
+    let start = at-loop .before .before .before .before .before in
+    omega (arith, in-loop .loop-test .taken, at-loop .loop .inv .size, block-some (start .args .c))
 
 loop-again : tie.Need-loop-again Inv-loop μ-loop
-loop-again c = walked-more _ _ _ _ _ _ (c .before .before .before .loop .inv) _ (c .before .before .loop-test .taken) (c .turn .ensures .0) (c .turn .ensures .1)
+loop-again c =
+    let in-loop = c .before .before in
+    let at-loop = in-loop .before in
+    walked-more _ _ _ _ _ _ (at-loop .loop .inv) _ (in-loop .loop-test .taken) (c .turn .ensures .0) (c .turn .ensures .1)
 
 sub-end : tie.Need-sub-end Inv-loop μ-loop
 sub-end c = c .before .loop .inv .inside
@@ -64,11 +72,15 @@ part-end-end c = omega arith
 
 end-requires : tie.Need-end-requires Inv-loop μ-loop
 end-requires c κs =
+    let start = c .before .before .before .before .before .before .before in
     let l = c .before .before in
-    (c .before .before .before .before .before .before .before .pre .0, omega (arith, l .loop .inv .number, l .loop .inv .inside, c .before .before .before .before .before .before .before .pre .1))
+    (start .pre .0, omega (arith, l .loop .inv .number, l .loop .inv .inside, start .pre .1))
 
 returns : tie.Need-returns Inv-loop μ-loop
-returns c = (walked-end _ _ _ _ _ _ (c .before .before .before .loop .inv) _ (c .before .before .loop-test .left) (c .end .ensures .0), c .end .ensures .1)
+returns c =
+    let in-loop = c .before .before in
+    let at-loop = in-loop .before in
+    (walked-end _ _ _ _ _ _ (at-loop .loop .inv) _ (in-loop .loop-test .left) (c .end .ensures .0), c .end .ensures .1)
 
 pub walk-spec : {M : Type 1} → statement M
 walk-spec =

@@ -38,7 +38,8 @@ part-judge-end c = search needs
 
 judge-requires : tie.Need-judge-requires
 judge-requires c κs =
-    let n = c .before .before .before .before .before .before .before .before .before .before in
+    let after-before = c .before .before .before .before .before .before .before .before .before in
+    let n = after-before .before in
     let st = n .before .before .before .before in
     (omega (arith, n .block-of .ensures, st .pre .3), omega (arith, n .block-of .ensures, block-most (st .args .c)))
 
@@ -47,7 +48,8 @@ same-length c = search needs
 
 returns : tie.Need-returns
 returns c =
-    let w = c .before .before .before .before in
+    let after-before = c .before .before .before in
+    let w = after-before .before in
     let o = w .before .before .before .before in
     let f = o .before .before in
     let n = f .before in
@@ -55,7 +57,8 @@ returns c =
     let a = st .args in
     ended (a .k) (a .c) (a .key) (a .nonce .now) (a .s) (a .part .now) (a .rest .now) (n .block-of .result) (f .is-full .result)
     (o .before .load .result) (o .open-last .result .first) (o .open-last .result .second) (c .judge .result) (w .store .last .0)
-    (n .block-of .ensures) (f .is-full .ensures) (o .before .load .ensures) (o .open-last .ensures) (w .store .ensures) (c .judge .ensures)
+    (n .block-of .ensures) (f .is-full .ensures) (o .before .load .ensures) (o .open-last .ensures) (w .store .ensures)
+    (c .judge .ensures)
     (st .pre .2) (st .pre .3)
 
 pub end-spec : {M : Type 1} → statement M

@@ -52,8 +52,10 @@ returns c =
 
 returns-2 : tie.Need-returns-2
 returns-2 c =
-    let e = c .before .before .before .before .before .equal in
-    let a = c .before .before .before .before .before .before .before .before .args in
+    let after-equal = c .before .before .before .before .before in
+    let start = after-equal .before .before .before in
+    let e = after-equal .equal in
+    let a = start .args in
     judged-no (same (take (a .n - a .r) (drop (a .r) (a .t3))) (take (a .n - a .r) (ten 15))) (e .ensures) (c .if1 .left)
 
 pub judge-spec : {M : Type 1} → statement M

@@ -63,8 +63,15 @@ add-at c =
 
 loop-less : tie.Need-loop-less Inv-loop μ-loop
 loop-less c =
-    let l = c .before .before .before .before .before .before in
-    omega (arith, l .loop .inv .inside, l .before .block-of .ensures, block-some (l .before .before .before .before .before .args .c))
+    let after-before = c .before .before .before .before .before in
+    let l = after-before .before in
+    omega (
+      arith,
+      l .loop .inv .inside,
+      l .before .block-of .ensures,
+      block-some
+          (l .before .before .before .before .before .args .c),
+    )
 
 loop-again : tie.Need-loop-again Inv-loop μ-loop
 loop-again c =

@@ -26,12 +26,14 @@ same-length c = search needs
 
 returns : tie.Need-returns
 returns c =
-    let w = c .before .before .before in
+    let after-before = c .before .before in
+    let w = after-before .before in
     let o = w .before .before .before in
     let n = o .before .before in
     let st = n .before .before .before .before in
     let a = st .args in
-    turned (a .k) (a .c) (a .key) (a .nonce .now) (a .s) (a .part .now) (a .rest .now) (n .block-of .result) (o .before .load .result)
+    turned (a .k) (a .c) (a .key) (a .nonce .now) (a .s) (a .part .now) (a .rest .now) (n .block-of .result)
+    (o .before .load .result)
     (o .open-block .result .out) (o .open-block .result .next) (w .store .last .0) (n .block-of .ensures) (o .before .load .ensures)
     (o .open-block .ensures) (w .store .ensures) (st .pre .2)
 

@@ -21,7 +21,9 @@ block-of-requires : tie.Need-block-of-requires Inv-loop μ-loop
 block-of-requires c κs = search needs
 
 loop-holds : tie.Need-loop-holds Inv-loop μ-loop
-loop-holds c = going-none _ _ _ _ _ _ _ _ (c .block-of .ensures) (c .before .before .before .before .pre .2) (c .before .before .before .before .pre .1)
+loop-holds c =
+    let start = c .before .before .before .before in
+    going-none _ _ _ _ _ _ _ _ (c .block-of .ensures) (start .pre .2) (start .pre .1)
 
 sub-loop : tie.Need-sub-loop Inv-loop μ-loop
 sub-loop c = omega (arith, c .loop .inv .inside)
@@ -36,32 +38,62 @@ part-turn-end : tie.Need-part-turn-end Inv-loop μ-loop
 part-turn-end c = omega arith
 
 sub-turn-2 : tie.Need-sub-turn-2 Inv-loop μ-loop
-sub-turn-2 c = omega (arith, c .before .before .loop .inv .inside, c .before .before .loop .inv .writing .wrote .long, c .before .before .before .before .before .before .before .pre .4)
+sub-turn-2 c =
+    let at-loop = c .before .before in
+    let start = at-loop .before .before .before .before .before in
+    omega (arith, at-loop .loop .inv .inside, at-loop .loop .inv .writing .wrote .long, start .pre .4)
 
 part-turn-start-2 : tie.Need-part-turn-start-2 Inv-loop μ-loop
-part-turn-start-2 c = omega (arith, c .before .before .loop .inv .inside, c .before .before .loop .inv .writing .wrote .long, c .before .before .before .before .before .before .before .pre .4)
+part-turn-start-2 c =
+    let at-loop = c .before .before in
+    let start = at-loop .before .before .before .before .before in
+    omega (arith, at-loop .loop .inv .inside, at-loop .loop .inv .writing .wrote .long, start .pre .4)
 
 part-turn-end-2 : tie.Need-part-turn-end-2 Inv-loop μ-loop
 part-turn-end-2 c = omega arith
 
 turn-requires : tie.Need-turn-requires Inv-loop μ-loop
 turn-requires c κs =
-    let l = c .before .before .before .loop in
-    let a = c .before .before .before .before .before .before .before .before .args in (
-      c .before .before .before .before .before .before .before .before .pre .0,
-      omega (arith, l .inv .number, l .inv .inside, c .before .before .before .before .before .before .before .before .pre .3),
-      omega (arith, part-long (l .at) (a .body .now), c .before .before .loop-test .taken, l .inv .size),
-      omega (arith, part-long (l .at) (l .room), c .before .before .loop-test .taken, l .inv .size, l .inv .writing .wrote .long, c .before .before .before .before .before .before .before .before .pre .4),
+    let in-loop = c .before .before in
+    let at-loop = in-loop .before in
+    let start = at-loop .before .before .before .before .before in
+    let l = at-loop .loop in
+    let a = start .args in (
+      start .pre .0,
+      omega (arith, l .inv .number, l .inv .inside, start .pre .3),
+      omega (arith, part-long (l .at) (a .body .now), in-loop .loop-test .taken, l .inv .size),
+      omega (
+        arith,
+        part-long (l .at)
+            (l .room),
+        in-loop .loop-test .taken,
+        l .inv .size,
+        l .inv .writing .wrote .long,
+        start .pre .4,
+      ),
     )
 
 add-at : tie.Need-add-at Inv-loop μ-loop
-add-at c = omega (arith, c .before .before .before .before .before .loop-test .taken, c .before .before .before .before .before .before .loop .inv .inside)
+add-at c =
+    let in-loop = c .before .before .before .before .before in
+    let at-loop = in-loop .before in
+    omega (arith, in-loop .loop-test .taken, at-loop .loop .inv .inside)
 
 loop-less : tie.Need-loop-less Inv-loop μ-loop
-loop-less c = omega (arith, c .before .before .before .before .before .loop-test .taken, c .before .before .before .before .before .before .loop .inv .size, block-some (c .before .before .before .before .before .before .before .before .before .before .before .args .c))
+loop-less c =
+    let in-loop = c .before .before .before .before .before in
+    let at-loop = in-loop .before in
+    let start = at-loop .before .before .before .before .before in
+    omega (arith, in-loop .loop-test .taken, at-loop .loop .inv .size, block-some (start .args .c))
 
 loop-again : tie.Need-loop-again Inv-loop μ-loop
-loop-again c = going-more _ _ _ _ _ _ _ (c .before .before .before .before .before .before .loop .inv) _ _ (c .before .before .before .before .before .loop-test .taken) (c .before .before .before .before .before .before .before .before .before .before .before .pre .4) (c .before .before .turn .ensures .0 .0) (c .before .before .turn .ensures .0 .1) (c .before .before .turn .ensures .1 .0) (c .before .before .turn .ensures .1 .1)
+loop-again c =
+    let after-turn = c .before .before in
+    let in-loop = after-turn .before .before .before in
+    let at-loop = in-loop .before in
+    let start = at-loop .before .before .before .before .before in
+    going-more _ _ _ _ _ _ _ (at-loop .loop .inv) _ _ (in-loop .loop-test .taken) (start .pre .4) (after-turn .turn .ensures .0 .0)
+    (after-turn .turn .ensures .0 .1) (after-turn .turn .ensures .1 .0) (after-turn .turn .ensures .1 .1)
 
 sub-end : tie.Need-sub-end Inv-loop μ-loop
 sub-end c = omega (arith, c .before .loop .inv .inside)
@@ -73,29 +105,58 @@ part-end-end : tie.Need-part-end-end Inv-loop μ-loop
 part-end-end c = omega arith
 
 sub-end-2 : tie.Need-sub-end-2 Inv-loop μ-loop
-sub-end-2 c = omega (arith, c .before .before .loop .inv .inside, c .before .before .loop .inv .writing .wrote .long, c .before .before .before .before .before .before .before .pre .4)
+sub-end-2 c =
+    let at-loop = c .before .before in
+    let start = at-loop .before .before .before .before .before in
+    omega (arith, at-loop .loop .inv .inside, at-loop .loop .inv .writing .wrote .long, start .pre .4)
 
 part-end-start-2 : tie.Need-part-end-start-2 Inv-loop μ-loop
-part-end-start-2 c = omega (arith, c .before .before .loop .inv .inside, c .before .before .loop .inv .writing .wrote .long, c .before .before .before .before .before .before .before .pre .4)
+part-end-start-2 c =
+    let at-loop = c .before .before in
+    let start = at-loop .before .before .before .before .before in
+    omega (arith, at-loop .loop .inv .inside, at-loop .loop .inv .writing .wrote .long, start .pre .4)
 
 part-end-end-2 : tie.Need-part-end-end-2 Inv-loop μ-loop
 part-end-end-2 c = omega arith
 
 end-requires : tie.Need-end-requires Inv-loop μ-loop
 end-requires c κs =
-    let l = c .before .before .before .loop in
-    let a = c .before .before .before .before .before .before .before .before .args in (
-      c .before .before .before .before .before .before .before .before .pre .0,
-      omega (arith, l .inv .number, l .inv .inside, c .before .before .before .before .before .before .before .before .pre .3),
-      omega (arith, part-long (l .at) (a .body .now), c .before .before .loop-test .left, l .inv .size),
-      omega (arith, part-long (l .at) (a .body .now), part-long (l .at) (l .room), l .inv .inside, l .inv .writing .wrote .long, c .before .before .before .before .before .before .before .before .pre .4),
+    let in-loop = c .before .before in
+    let at-loop = in-loop .before in
+    let start = at-loop .before .before .before .before .before in
+    let l = at-loop .loop in
+    let a = start .args in (
+      start .pre .0,
+      omega (arith, l .inv .number, l .inv .inside, start .pre .3),
+      omega (arith, part-long (l .at) (a .body .now), in-loop .loop-test .left, l .inv .size),
+      omega (
+        arith,
+        part-long (l .at) (a .body .now),
+        part-long (l .at)
+            (l .room),
+        l .inv .inside,
+        l .inv .writing .wrote .long,
+        start .pre .4,
+      ),
     )
 
 same-length : tie.Need-same-length Inv-loop μ-loop
-same-length c = going-long _ _ _ _ _ _ _ (c .before .before .before .before .before .before .loop .inv) _ (c .before .before .before .before .before .loop-test .left) (c .before .before .before .before .before .before .before .before .before .before .before .pre .4) (c .before .before .end .ensures .0) (c .before .before .end .ensures .1)
+same-length c =
+    let after-end = c .before .before in
+    let in-loop = after-end .before .before .before in
+    let at-loop = in-loop .before in
+    let start = at-loop .before .before .before .before .before in
+    going-long _ _ _ _ _ _ _ (at-loop .loop .inv) _ (in-loop .loop-test .left) (start .pre .4) (after-end .end .ensures .0)
+    (after-end .end .ensures .1)
 
 returns : tie.Need-returns Inv-loop μ-loop
-returns c = going-end _ _ _ _ _ _ _ (c .before .before .before .before .before .before .loop .inv) _ (c .before .before .before .before .before .loop-test .left) (c .before .before .before .before .before .before .before .before .before .before .before .pre .4) (c .before .before .end .ensures .0) (c .before .before .end .ensures .1)
+returns c =
+    let after-end = c .before .before in
+    let in-loop = after-end .before .before .before in
+    let at-loop = in-loop .before in
+    let start = at-loop .before .before .before .before .before in
+    going-end _ _ _ _ _ _ _ (at-loop .loop .inv) _ (in-loop .loop-test .left) (start .pre .4) (after-end .end .ensures .0)
+    (after-end .end .ensures .1)
 
 pub body-spec : {M : Type 1} → statement M
 body-spec =

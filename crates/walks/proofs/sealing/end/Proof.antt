@@ -24,7 +24,13 @@ seal-last-requires : tie.Need-seal-last-requires
 seal-last-requires c κs = search needs
 
 store-requires : tie.Need-store-requires
-store-requires c κs = (omega (arith, c .before .before .before .before .before .before .block-of .ensures, block-most (c .before .before .before .before .before .before .before .before .before .before .args .c)), omega (arith, c .before .before .before .before .before .before .block-of .ensures, c .before .before .before .before .before .before .before .before .before .before .pre .3))
+store-requires c κs =
+    let after-block-of = c .before .before .before .before .before .before in
+    let start = after-block-of .before .before .before .before in (
+      omega (arith, after-block-of .block-of .ensures, block-most (start .args .c)),
+      omega
+          (arith, after-block-of .block-of .ensures, start .pre .3),
+    )
 
 sub-store : tie.Need-sub-store
 sub-store c = search needs
@@ -36,18 +42,32 @@ part-store-end : tie.Need-part-store-end
 part-store-end c = search needs
 
 store-requires-2 : tie.Need-store-requires-2
-store-requires-2 c κs = (omega (arith, c .before .before .before .before .before .before .before .before .before .before .before .before .before .before .pre .2, block-most (c .before .before .before .before .before .before .before .before .before .before .before .before .before .before .args .c)), simp (length-take, length-drop) (omega arith))
+store-requires-2 c κs =
+    let start = c .before .before .before .before .before .before .before .before .before .before .before .before .before .before in
+    (omega (arith, start .pre .2, block-most (start .args .c)), simp (length-take, length-drop) (omega arith))
 
 same-length : tie.Need-same-length
 same-length c = search needs
 
 returns : tie.Need-returns
 returns c =
-    let a = c .before .before .before .before .before .before .before .before .before .before .before .before .before .before .before .before .before .args in
-    let e = c .before .before .before .before .before .before .before .before .before .before .before .before .before .block-of .ensures in
-    let f = c .before .before .before .before .before .before .before .before .before .before .before .before .is-full .ensures ∙ ap (λ (m : ℕ). full m (length (a .part .now))) e in
-    let l = loaded _ (blockOf (a .c)) _ (a .part .now) e (c .before .before .before .before .before .before .before .before .before .before .before .load .ensures) in
-    (end-is (a .c) (a .k) (a .key) (a .nonce .now) _ _ (a .s) (a .part .now) _ _ _ _ _ _ e f l (c .before .before .before .before .before .before .before .before .before .before .seal-last .ensures) (c .before .before .before .before .before .before .before .before .before .before .before .before .before .before .before .before .before .pre .2) (c .before .before .before .before .before .before .before .before .before .before .before .before .before .before .before .before .before .pre .3) (c .before .before .before .before .before .before .store .ensures) (c .before .before .store2 .ensures), end-long (a .c) (a .k) (a .key) (a .nonce .now) _ _ (a .s) (a .part .now) _ _ _ _ _ _ e f l (c .before .before .before .before .before .before .before .before .before .before .seal-last .ensures) (c .before .before .before .before .before .before .before .before .before .before .before .before .before .before .before .before .before .pre .2) (c .before .before .before .before .before .before .before .before .before .before .before .before .before .before .before .before .before .pre .3) (c .before .before .before .before .before .before .store .ensures) (c .before .before .store2 .ensures))
+    let after-store2 = c .before .before in
+    let after-store = after-store2 .before .before .before .before in
+    let after-seal-last = after-store .before .before .before .before in
+    let after-load = after-seal-last .before in
+    let after-is-full = after-load .before in
+    let after-block-of = after-is-full .before in
+    let start = after-block-of .before .before .before .before in
+    let a = start .args in
+    let e = after-block-of .block-of .ensures in
+    let f = after-is-full .is-full .ensures ∙ ap (λ (m : ℕ). full m (length (a .part .now))) e in
+    let l = loaded _ (blockOf (a .c)) _ (a .part .now) e (after-load .load .ensures) in (
+      end-is (a .c) (a .k) (a .key) (a .nonce .now) _ _ (a .s) (a .part .now) _ _ _ _ _ _ e f l (after-seal-last .seal-last .ensures)
+          (start .pre .2) (start .pre .3) (after-store .store .ensures) (after-store2 .store2 .ensures),
+      end-long (a .c) (a .k) (a .key)
+          (a .nonce .now) _ _ (a .s) (a .part .now) _ _ _ _ _ _ e f l (after-seal-last .seal-last .ensures) (start .pre .2)
+          (start .pre .3) (after-store .store .ensures) (after-store2 .store2 .ensures),
+    )
 
 pub end-spec : {M : Type 1} → statement M
 end-spec =

@@ -20,23 +20,37 @@ alone-requires : tie.Need-alone-requires
 alone-requires c κs = search needs
 
 array-share-prefix-block : tie.Need-array-share-prefix-block
-array-share-prefix-block c = omega (arith, c .before .before .before .block-of .ensures, block-most (c .before .before .before .before .before .before .before .before .args .c))
+array-share-prefix-block c =
+    let after-block-of = c .before .before .before in
+    let start = after-block-of .before .before .before .before .before in
+    omega (arith, after-block-of .block-of .ensures, block-most (start .args .c))
 
 slice-aggregate-equal : tie.Need-slice-aggregate-equal
-slice-aggregate-equal c = simp length-take (omega (arith, c .before .alone .ok, c .before .before .before .before .block-of .ensures, block-most (c .before .before .before .before .before .before .before .before .before .args .c)))
+slice-aggregate-equal c =
+    let after-block-of = c .before .before .before .before in
+    let start = after-block-of .before .before .before .before .before in
+    simp length-take (omega (arith, c .before .alone .ok, after-block-of .block-of .ensures, block-most (start .args .c)))
 
 equal-requires : tie.Need-equal-requires
 equal-requires c κs = search needs
 
 returns : tie.Need-returns
 returns c =
-    let a = c .before .before .before .before .before .before .before .before .before .before .args in
+    let after-alone = c .before .before in
+    let after-head = after-alone .before in
+    let test = after-head .before in
+    let after-block-of = test .before in
+    let start = after-block-of .before .before .before .before .before in
+    let a = start .args in
     let n = blockOf (a .c) in
     let M = modeOf (a .k) (a .c) (a .key) (a .nonce .now) in (
-      open-none n M (a .header .now) _ _ _ (c .before .before .before .before .before .block-of .ensures) (c .before .before .before .head .ensures .0) (c .before .before .alone .ensures) (a .run .now) _ (c .before .before .before .before .if1 .taken) (c .equal .ensures),
+      open-none n M (a .header .now) _ _ _ (after-block-of .block-of .ensures) (after-head .head .ensures .0)
+          (after-alone .alone .ensures) (a .run .now) _ (test .if1 .taken) (c .equal .ensures),
       (
-        open-none-room n M (a .header .now) _ _ _ (c .before .before .before .before .before .block-of .ensures) (c .before .before .before .head .ensures .0) (c .before .before .alone .ensures) (a .run .now) _ (c .before .before .before .before .if1 .taken),
-        open-none-long n M (a .header .now) _ _ _ (c .before .before .before .before .before .block-of .ensures) (c .before .before .before .head .ensures .0) (c .before .before .alone .ensures) (a .run .now) (c .before .before .before .before .if1 .taken),
+        open-none-room n M (a .header .now) _ _ _ (after-block-of .block-of .ensures) (after-head .head .ensures .0)
+            (after-alone .alone .ensures) (a .run .now) _ (test .if1 .taken),
+        open-none-long n M (a .header .now) _ _ _ (after-block-of .block-of .ensures) (after-head .head .ensures .0)
+            (after-alone .alone .ensures) (a .run .now) (test .if1 .taken),
       ),
     )
 
@@ -51,14 +65,19 @@ same-length c = search needs
 
 returns-2 : tie.Need-returns-2
 returns-2 c =
-    let a = c .before .before .before .before .before .before .before .before .before .before .before .args in
+    let after-run = c .before .before in
+    let after-head2 = after-run .before .before in
+    let test = after-head2 .before in
+    let after-block-of = test .before in
+    let start = after-block-of .before .before .before .before .before in
+    let a = start .args in
     let n = blockOf (a .c) in
     let M = modeOf (a .k) (a .c) (a .key) (a .nonce .now) in
-    let l : n < length (a .run .now) = omega (arith, c .before .before .before .before .before .if1 .left, c .before .before .before .before .before .before .block-of .ensures, c .before .before .before .before .before .before .before .before .before .before .before .pre .3) in (
-      open-some n M (a .header .now) _ (c .before .before .before .before .head2 .ensures .0) (a .run .now) l _ (c .before .before .run .ensures .0),
+    let l : n < length (a .run .now) = omega (arith, test .if1 .left, after-block-of .block-of .ensures, start .pre .3) in (
+      open-some n M (a .header .now) _ (after-head2 .head2 .ensures .0) (a .run .now) l _ (after-run .run .ensures .0),
       (
-        open-some-room n M (a .header .now) _ (c .before .before .before .before .head2 .ensures .0) (a .run .now) l _ _ (c .before .before .run .ensures .1 .0),
-        open-some-long n M (a .header .now) _ (c .before .before .before .before .head2 .ensures .0) (a .run .now) l (c .before .before .run .ensures .1 .1),
+        open-some-room n M (a .header .now) _ (after-head2 .head2 .ensures .0) (a .run .now) l _ _ (after-run .run .ensures .1 .0),
+        open-some-long n M (a .header .now) _ (after-head2 .head2 .ensures .0) (a .run .now) l (after-run .run .ensures .1 .1),
       ),
     )
 

@@ -18,17 +18,30 @@ alone-requires : tie.Need-alone-requires
 alone-requires c κs = search needs
 
 store-requires : tie.Need-store-requires
-store-requires c κs = (omega (arith, c .before .before .block-of .ensures, block-most (c .before .before .before .before .before .before .before .before .before .args .c)), omega (arith, c .before .before .block-of .ensures, c .before .before .before .before .before .before .before .before .before .pre .3))
+store-requires c κs =
+    let after-block-of = c .before .before in
+    let start = after-block-of .before .before .before .before .before .before .before in (
+      omega (arith, after-block-of .block-of .ensures, block-most (start .args .c)),
+      omega
+          (arith, after-block-of .block-of .ensures, start .pre .3),
+    )
 
 same-length : tie.Need-same-length
 same-length c = search needs
 
 returns : tie.Need-returns
 returns c =
-    let a = c .before .before .before .before .before .before .before .before .before .before .before .before .args in
+    let after-store = c .before .before in
+    let after-alone = after-store .before in
+    let after-block-of = after-alone .before .before in
+    let after-head = after-block-of .before in
+    let test = after-head .before in
+    let start = test .before .before .before .before .before in
+    let a = start .args in
     let n = blockOf (a .c) in
     let M = modeOf (a .k) (a .c) (a .key) (a .nonce .now) in
-    seal-none n M (a .header .now) _ _ _ (c .before .before .before .before .before .block-of .ensures) (c .before .before .before .before .before .before .head .ensures .0) (c .before .before .before .alone .ensures) (a .body .now) _ _ (c .before .before .before .before .before .before .before .if1 .taken) (c .before .before .store .ensures)
+    seal-none n M (a .header .now) _ _ _ (after-block-of .block-of .ensures) (after-head .head .ensures .0)
+    (after-alone .alone .ensures) (a .body .now) _ _ (test .if1 .taken) (after-store .store .ensures)
 
 head-requires-2 : tie.Need-head-requires-2
 head-requires-2 c κs = search needs
@@ -41,10 +54,15 @@ same-length-2 c = search needs
 
 returns-2 : tie.Need-returns-2
 returns-2 c =
-    let a = c .before .before .before .before .before .before .before .before .before .before .args in
+    let after-body = c .before .before in
+    let after-head2 = after-body .before .before in
+    let test = after-head2 .before in
+    let start = test .before .before .before .before .before in
+    let a = start .args in
     let n = blockOf (a .c) in
     let M = modeOf (a .k) (a .c) (a .key) (a .nonce .now) in
-    seal-some n M (a .header .now) _ (c .before .before .before .before .head2 .ensures .0) (a .body .now) _ _ (omega (arith, c .before .before .before .before .before .if1 .left)) (c .before .before .body .ensures)
+    seal-some n M (a .header .now) _ (after-head2 .head2 .ensures .0) (a .body .now) _ _ (omega (arith, test .if1 .left))
+    (after-body .body .ensures)
 
 pub seal-spec : {M : Type 1} → statement M
 seal-spec =
