@@ -6,7 +6,7 @@ use Prim.Native.Nat.{ℕ, zero, suc, _+_, _*_, _/_, _%_, _<_, _≤_}
 use native.Mathlib.Omega.{arith}
 use mathlib.Core.Bool.{true}
 use borrow.Author.Tests.{ltb-true}
-use lib.Dec.{lit≤, ltb}
+use lib.Dec.{lit≤, lit<, ltb}
 use lib.ListN.{length, getD, take, replicate}
 use lib.Bits.{bitXor}
 use lib.Seq.{ext-getD, getD-take, length-take-le, take-all}
@@ -25,6 +25,15 @@ use Rattle.ciphers.specs.Ciphers.{widthOf, initOf, branchOf, blockOf, ni
 pub fit : (c : Cipher) → initOf c + (branchOf c + branchOf c) ≤ 87
 fit N64T192 = lit≤ tt
 fit N128T256 = lit≤ tt
+
+-- a block has some bytes, and no more than sixteen
+pub block-some : (c : Cipher) → 0 < blockOf c
+block-some N64T192 = lit< tt
+block-some N128T256 = lit< tt
+
+pub block-most : (c : Cipher) → blockOf c ≤ 16
+block-most N64T192 = lit≤ tt
+block-most N128T256 = lit≤ tt
 
 -- ---- bytes as cells
 

@@ -6,6 +6,7 @@ use Prim.Native.Nat.{ℕ, _+_, _-_}
 use native.Mathlib.Omega.{arith}
 use lib.ListN.{length, take, replicate}
 use lib.Seq.{take-all, take-at, length-take-le}
+use Rattle.ciphers.proofs.Laws.{block-most}
 use Rattle.cells.specs.Cells.{Bytes}
 use Rattle.ciphers.specs.declared.Cipher.{Cipher}
 use Rattle.ciphers.specs.declared.Cipher.the-variants.{N64T192, N128T256}
@@ -16,7 +17,6 @@ use Rattle.modes.specs.Blocks.{Block}
 use Rattle.modes.specs.Forkcipher.{ForkLaws}
 use Rattle.modes.proofs.Bytes.{block-take, block-zeros, block-append}
 use Rattle.steps.specs.Skinny.{skinny}
-use Rattle.steps.proofs.Skinny.{block-most}
 
 -- the bytes of a block that count
 counted-front : (c : Cipher) (b : List ℕ) → length b ≡ 16 → take (blockOf c) (counted (widthOf c) b) ≡ take (blockOf c) b

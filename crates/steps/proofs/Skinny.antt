@@ -1,19 +1,13 @@
 -- A block call on sixteen bytes, read in the cipher's own bytes. Assumes nothing.
 use mathlib.Core.Path.{_≡_, sym, ap, _∙_}
 use mathlib.Core.List.{List}
-use Prim.Native.Nat.{ℕ, _≤_}
-use lib.Dec.{lit≤}
+use Prim.Native.Nat.{ℕ}
 use lib.ListN.{take}
 use Rattle.ciphers.specs.declared.Cipher.{Cipher}
-use Rattle.ciphers.specs.declared.Cipher.the-variants.{N64T192, N128T256}
 use Rattle.ciphers.specs.Ciphers.{blockOf}
 use Rattle.forkskinny.specs.ForkSkinny.{half, input, other}
 use Rattle.forkskinny.proofs.Forkcipher.{half-front, input-front, other-front}
 use Rattle.steps.specs.Skinny.{skinny}
-
-pub block-most : (c : Cipher) → blockOf c ≤ 16
-block-most N64T192 = lit≤ tt
-block-most N128T256 = lit≤ tt
 
 -- t is the tweak in sixteen bytes, T its bytes that count
 module _ (c : Cipher) (key : List ℕ) (h : ℕ) (t T x : List ℕ) (e : take (blockOf c) t ≡ T) where

@@ -1,6 +1,7 @@
 mod Opened
-pub mod Places
+mod Places
 mod Sealed
+mod Turned
 mod Walked
 mod Wholes
 mod Writing

@@ -1,6 +1,5 @@
 -- Opening a run, from what the callees ensure.
 --     judged-yes, judged-no   the test at its end: its two returns
---     turned                  a block that is not the last
 --     ended                   the last block, and the bytes behind it
 --     Going                   the loop's invariant: how it begins, what a turn and the end require, and what they do to it
 -- Assumes nothing.
@@ -11,21 +10,20 @@ use Prim.Native.Nat.{ℕ, zero, suc, _+_, _-_, _≤_, _<_}
 use native.Mathlib.Omega.{arith}
 use lib.ListN.{length, take, drop, replicate}
 use lib.Seq.{length-take-le, take-take, take-add, drop-at}
+use Rattle.ciphers.proofs.Laws.{block-some, block-most}
 use Rattle.ciphers.specs.declared.Cipher.{Cipher}
 use Rattle.ciphers.specs.Ciphers.{blockOf}
 use Rattle.modes.specs.Blocks.{full, ten, pad, same}
 use Rattle.modes.specs.Mode.{Mode, Opened, before, judge, tagOf, blockOf as headOf, openLast, openRest}
-use Rattle.modes.specs.Paef.{paef}
-use Rattle.modes.specs.Saef.{saef}
 use Rattle.modes.proofs.Bytes.{pad-long}
 use Rattle.modes.proofs.Turn.{Opening, open-begin, open-turn, open-end}
 use Rattle.steps.specs.declared.Kind.{Kind}
-use Rattle.steps.specs.declared.Kind.the-variants.{Paef, Saef}
 use Rattle.steps.specs.declared.State.{State}
 use Rattle.steps.specs.Modes.{Carried, modeOf, stateOf}
-use Rattle.steps.specs.Steps.{Stepped, Paired}
+use Rattle.steps.specs.Steps.{Paired}
 use Rattle.blocks.proofs.Parts.{part-rest}
-use Rattle.walks.proofs.Places.{block-some, block-most, part-long}
+use Rattle.walks.proofs.Places.{block-first, part-long}
+use Rattle.walks.proofs.Turned.{Turned}
 use Rattle.walks.proofs.Writing.{Writing, writing-none, writing-more, writing-end, writing-reach}
 
 -- ---- the test
@@ -56,12 +54,6 @@ ten-front zero m n hm hn = refl
 ten-front (suc j) m n hm hn = ap (λ (t : List ℕ). 128 ∷ t) (zeros-front j m n (omega arith) (omega arith))
 
 -- ---- a block, and the end
-
--- in PAEF and SAEF the last block comes before the leading bytes of the second
-block-first : (k : Kind) (c : Cipher) (key nonce : List ℕ) → modeOf k c key nonce .blockFirst ≡ true
-unfolding paef saef
-block-first Paef c key nonce = refl
-block-first Saef c key nonce = refl
 
 -- what the end of a run opens to, where the mode opens it to n bytes of `first` and of `second`
 module _ {St : Type 0} (n : ℕ) (M : Mode St) (st : St) (part first second : List ℕ) where
@@ -98,22 +90,6 @@ module _ (k : Kind) (c : Cipher) (key nonce : List ℕ) (s : State) (part rest�
 
   abbrev st : Carried k
   st = stateOf k n s
-
-  -- what a turn ensures
-  abbrev Turned : (next : State) (rest : List ℕ) → Type 0
-  Turned next rest =
-      ((stateOf k n next ≡ M .backNext st (take n part)) × (next .number ≤ s .number + 1))
-      × ((rest ≡ M .back st (take n part) ++ drop n rest₀) × (length (M .back st (take n part)) ≡ n))
-
-  pub turned : (m : ℕ) (x out : List ℕ) (next : State) (rest : List ℕ) → m ≡ n → take m x ≡ pad m part
-      → Stepped k n (M .back) (M .backNext) s x out next → rest ≡ take m out ++ drop m rest₀ → n ≤ length part → Turned next rest
-  turned m x out next rest em ex t er h =
-      let e : take n x ≡ take n part = subst (λ (j : ℕ). take j x ≡ pad j part) em ex ∙ pad-long n part h in
-      let o : take n out ≡ M .back st (take n part) = t .out-is ∙ ap (M .back st) e in
-      let l : length (take n out) ≡ n = length-take-le n out (omega (arith, t .long, block-most c)) in (
-        (t .next-is ∙ ap (M .backNext st) e, t .number),
-        (er ∙ ap (λ (j : ℕ). take j out ++ drop j rest₀) em ∙ ap (λ (y : List ℕ). y ++ drop n rest₀) o, ap length (sym o) ∙ l),
-      )
 
   abbrev opened : Opened
   opened = openLast n M st part
@@ -205,7 +181,7 @@ module _
     whole ys = take at room ++ (ys ++ drop (length room - at) (drop at room))
 
     more : (s′ : State) (ys : List ℕ) → at + size + size < length run → length run ≤ length room₀ + size
-        → Turned k c key nonce s lent left s′ ys → Going k c key nonce run start room₀ s′ (at + size) (whole ys)
+        → Turned k c (mode .back) (mode .backNext) s lent left s′ ys → Going k c key nonce run start room₀ s′ (at + size) (whole ys)
     more s′ ys h f t =
         let x = take size (drop at run) in
         let y = mode .back here (take size lent) in
@@ -233,7 +209,7 @@ module _
             let q = part-long at room in
             (omega (arith, g .number), omega arith, omega arith)
 
-        pub going-more : (s′ : State) (ys : List ℕ) → Turned k c key nonce s lent left s′ ys
+        pub going-more : (s′ : State) (ys : List ℕ) → Turned k c (mode .back) (mode .backNext) s lent left s′ ys
             → Going k c key nonce run start room₀ s′ (at + m) (whole ys)
         going-more s′ ys t =
             subst⁻¹ (λ (j : ℕ). Going k c key nonce run start room₀ s′ (at + j) (whole ys)) em (more s′ ys (omega arith) f t)

@@ -1,23 +1,24 @@
--- Where the loops stand: a block has some bytes, and a part from a place on is as long as what is left. Assumes nothing.
-use mathlib.Core.Path.{_≡_, ap, _∙_, subst}
+-- Where the walks stand: the order of a run's end, how long a part is, and what is loaded from its front. Assumes nothing.
+use mathlib.Core.Bool.{true}
+use mathlib.Core.Path.{_≡_, refl, ap, _∙_, subst}
 use mathlib.Core.List.{List}
-use Prim.Native.Nat.{ℕ, _-_, _≤_, _<_}
-use lib.Dec.{lit≤, lit<}
+use Prim.Native.Nat.{ℕ, _-_, _≤_}
 use lib.ListN.{length, take, drop, length-drop}
 use Rattle.ciphers.specs.declared.Cipher.{Cipher}
-use Rattle.ciphers.specs.declared.Cipher.the-variants.{N64T192, N128T256}
-use Rattle.ciphers.specs.Ciphers.{blockOf}
 use Rattle.modes.specs.Blocks.{pad}
+use Rattle.modes.specs.Paef.{paef}
+use Rattle.modes.specs.Saef.{saef}
+use Rattle.steps.specs.declared.Kind.{Kind}
+use Rattle.steps.specs.declared.Kind.the-variants.{Paef, Saef}
+use Rattle.steps.specs.Modes.{modeOf}
 use Rattle.modes.proofs.Bytes.{pad-long}
 use Rattle.blocks.proofs.Parts.{part-rest}
 
-pub block-some : (c : Cipher) → 0 < blockOf c
-block-some N64T192 = lit< tt
-block-some N128T256 = lit< tt
-
-pub block-most : (c : Cipher) → blockOf c ≤ 16
-block-most N64T192 = lit≤ tt
-block-most N128T256 = lit≤ tt
+-- in PAEF and SAEF the last block comes before the leading bytes of the second
+pub block-first : (k : Kind) (c : Cipher) (key nonce : List ℕ) → modeOf k c key nonce .blockFirst ≡ true
+unfolding paef saef
+block-first Paef c key nonce = refl
+block-first Saef c key nonce = refl
 
 pub part-long : (at : ℕ) (l : List ℕ) → length (take (length l - at) (drop at l)) ≡ length l - at
 part-long at l = ap length (part-rest at l) ∙ length-drop at l

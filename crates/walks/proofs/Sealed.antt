@@ -1,34 +1,25 @@
 -- A body sealed, as its loop keeps it: a turn, and the last block. Assumes nothing.
 use mathlib.Core.Path.{_≡_, refl, sym, ap, _∙_, subst}
-use mathlib.Core.Bool.{Bool, true}
+use mathlib.Core.Bool.{Bool}
 use mathlib.Core.List.{List, _++_}
 use Prim.Native.Nat.{ℕ, _+_, _-_, _≤_, _<_}
 use native.Mathlib.Omega.{arith}
 use lib.ListN.{length, take, drop}
 use lib.Seq.{length-take-le, take-take}
+use Rattle.ciphers.proofs.Laws.{block-some, block-most}
 use Rattle.ciphers.specs.declared.Cipher.{Cipher}
 use Rattle.ciphers.specs.Ciphers.{blockOf}
 use Rattle.blocks.proofs.Parts.{part-rest}
 use Rattle.blocks.proofs.Wrote.{Wrote, wrote-first, wrote-more}
 use Rattle.modes.specs.Blocks.{full, pad}
 use Rattle.modes.specs.Mode.{Mode, join, sealLast, sealRest}
-use Rattle.modes.specs.Paef.{paef}
-use Rattle.modes.specs.Saef.{saef}
 use Rattle.modes.proofs.Turn.{Sealing, seal-begin, seal-turn, seal-end}
 use Rattle.steps.specs.declared.Kind.{Kind}
-use Rattle.steps.specs.declared.Kind.the-variants.{Paef, Saef}
 use Rattle.steps.specs.declared.State.{State}
 use Rattle.steps.specs.Modes.{Carried, modeOf, stateOf}
 use Rattle.steps.specs.Steps.{Paired}
-use Rattle.walks.proofs.Places.{block-some, block-most, part-long}
+use Rattle.walks.proofs.Places.{block-first, part-long}
 use Rattle.walks.proofs.Writing.{Writing, writing-none, writing-more, writing-end, writing-long}
-
--- a block y that was stored from sixteen bytes
-pub stored : (N n : ℕ) (out y old new : List ℕ) → N ≡ n → take n out ≡ y → new ≡ take N out ++ drop N old → new ≡ y ++ drop n old
-stored N n out y old new e f h = h ∙ ap (λ (m : ℕ). take m out ++ drop m old) e ∙ ap (λ (l : List ℕ). l ++ drop n old) f
-
-pub stored-long : (n : ℕ) (out y : List ℕ) → n ≤ 16 → length out ≡ 16 → take n out ≡ y → length y ≡ n
-stored-long n out y h l f = sym (ap length f) ∙ length-take-le n out (omega arith)
 
 module _ (c : Cipher) (k : Kind) (key nonce : List ℕ) where
   abbrev n : ℕ
@@ -36,12 +27,6 @@ module _ (c : Cipher) (k : Kind) (key nonce : List ℕ) where
 
   abbrev M : Mode (Carried k)
   M = modeOf k c key nonce
-
-  -- in these modes the block comes before the bytes of the second one
-  block-first : (k : Kind) → (modeOf k c key nonce) .blockFirst ≡ true
-  unfolding paef saef
-  block-first Paef = refl
-  block-first Saef = refl
 
   -- ---- the last block: rest is lent whole for the block, and then from N on for l bytes of the second
   module _ (N : ℕ) (f : Bool) (s : State) (part x first second old mid ys : List ℕ)
@@ -65,7 +50,7 @@ module _ (c : Cipher) (k : Kind) (key nonce : List ℕ) where
 
     last-is : take N first ++ take (length part) second ≡ sealLast n M st part
     unfolding sealLast join
-    last-is = (λ i. block-is i ++ tag-is i) ∙ sym (ap (λ (b : Bool). join b (M .fin F st (pad n part)) (take (length part) (M .tag F st (pad n part)))) (block-first k))
+    last-is = (λ i. block-is i ++ tag-is i) ∙ sym (ap (λ (b : Bool). join b (M .fin F st (pad n part)) (take (length part) (M .tag F st (pad n part)))) (block-first k c key nonce))
 
     block-long : length (take N first) ≡ N
     block-long = length-take-le N first (omega (arith, p .first-long, size, block-most c))

@@ -5,6 +5,7 @@ use mathlib.Core.List.{List}
 use Prim.Native.Nat.{ℕ, _+_, _-_, _≤_, _<_}
 use native.Mathlib.Omega.{arith}
 use lib.ListN.{length, take, drop}
+use Rattle.ciphers.proofs.Laws.{block-some}
 use Rattle.ciphers.specs.declared.Cipher.{Cipher}
 use Rattle.ciphers.specs.Ciphers.{blockOf}
 use Rattle.blocks.proofs.Parts.{part-rest}
@@ -14,7 +15,6 @@ use Rattle.modes.proofs.Turn.{Walking, walk-begin, walk-turn, walk-end}
 use Rattle.steps.specs.declared.Kind.{Kind}
 use Rattle.steps.specs.declared.State.{State}
 use Rattle.steps.specs.Modes.{Carried, modeOf, stateOf}
-use Rattle.walks.proofs.Places.{block-some}
 
 module _ (c : Cipher) (k : Kind) (key nonce : List ℕ) (empty : Bool) (header : List ℕ) where
   abbrev n : ℕ

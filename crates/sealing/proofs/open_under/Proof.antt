@@ -2,8 +2,8 @@
 use mathlib.Core.Path.{refl, sym, _∙_}
 use native.Mathlib.Omega.{arith}
 use lib.ListN.{length}
-use Rattle.walks.proofs.Places.{block-most}
 use borrow.Author.Tests.{ltb-false}
+use Rattle.ciphers.proofs.Laws.{block-most}
 use Rattle.sealing.proofs.Passed.{check-passed, check-long}
 use Rattle.sealing.proofs.Answers.{key-whole, open-refuses, open-does, open-forges}
 use borrow.Author.Tests.{ltb-false}

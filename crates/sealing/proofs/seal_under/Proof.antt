@@ -1,8 +1,8 @@
 -- `sealing::seal_under` meets its contract: refused by a check, or done. Assumes nothing.
 use mathlib.Core.Path.{sym, _∙_}
 use native.Mathlib.Omega.{arith}
+use Rattle.ciphers.proofs.Laws.{block-most}
 use Rattle.sealing.proofs.Passed.{check-passed}
-use Rattle.walks.proofs.Places.{block-most}
 use Rattle.sealing.proofs.Answers.{key-whole, seal-refuses, seal-does}
 use borrow.Author.Needs.{needs}
 use Rattle.sealing.proofs.seal_under.Statement.{statement}

@@ -1,7 +1,7 @@
 -- `steps::paef::both` meets its contract: `both-paired` of what the callees made. Assumes nothing.
 use native.Mathlib.Omega.{arith}
+use Rattle.ciphers.proofs.Laws.{block-most}
 use Rattle.steps.proofs.PaefSteps.{both-paired}
-use Rattle.steps.proofs.Skinny.{block-most}
 use borrow.Author.Needs.{needs}
 use Rattle.steps.proofs.paef.both.Statement.{statement}
 use Rattle.steps.proofs.paef.both.Tie as tie

@@ -1,7 +1,7 @@
 -- `steps::paef::head_sum` meets its contract: `head-is` of what the callees made. Assumes nothing.
 use native.Mathlib.Omega.{arith}
+use Rattle.ciphers.proofs.Laws.{block-most}
 use Rattle.steps.proofs.PaefSteps.{head-is}
-use Rattle.steps.proofs.Skinny.{block-most}
 use borrow.Author.Needs.{needs}
 use Rattle.steps.proofs.paef.head_sum.Statement.{statement}
 use Rattle.steps.proofs.paef.head_sum.Tie as tie

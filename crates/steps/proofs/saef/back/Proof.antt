@@ -1,7 +1,7 @@
 -- `steps::saef::back` meets its contract: `back-paired` of what the callees made. Assumes nothing.
 use native.Mathlib.Omega.{arith}
+use Rattle.ciphers.proofs.Laws.{block-most}
 use Rattle.steps.proofs.SaefSteps.{back-paired}
-use Rattle.steps.proofs.Skinny.{block-most}
 use borrow.Author.Needs.{needs}
 use Rattle.steps.proofs.saef.back.Statement.{statement}
 use Rattle.steps.proofs.saef.back.Tie as tie

@@ -1,7 +1,7 @@
 -- `steps::saef::head_delta` meets its contract: `head-is` of what the callees made. Assumes nothing.
 use native.Mathlib.Omega.{arith}
+use Rattle.ciphers.proofs.Laws.{block-most}
 use Rattle.steps.proofs.SaefSteps.{head-is}
-use Rattle.steps.proofs.Skinny.{block-most}
 use borrow.Author.Needs.{needs}
 use Rattle.steps.proofs.saef.head_delta.Statement.{statement}
 use Rattle.steps.proofs.saef.head_delta.Tie as tie

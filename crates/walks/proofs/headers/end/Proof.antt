@@ -3,10 +3,11 @@ use mathlib.Core.Path.{_∙_, ap}
 use Prim.Native.Nat.{ℕ}
 use native.Mathlib.Omega.{arith}
 use lib.ListN.{length}
+use Rattle.ciphers.proofs.Laws.{block-most}
 use Rattle.modes.specs.Blocks.{full}
 use Rattle.ciphers.specs.Ciphers.{blockOf}
 use Rattle.steps.specs.Modes.{modeOf, stateOf}
-use Rattle.walks.proofs.Places.{block-most, loaded}
+use Rattle.walks.proofs.Places.{loaded}
 use borrow.Author.Needs.{needs}
 use Rattle.walks.proofs.headers.end.Statement.{statement}
 use Rattle.walks.proofs.headers.end.Tie as tie

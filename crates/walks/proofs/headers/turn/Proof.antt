@@ -1,9 +1,10 @@
 -- `walks::headers::turn` meets its contract: one step on the block that was loaded. Assumes nothing.
 use mathlib.Core.Path.{ap, _∙_}
 use native.Mathlib.Omega.{arith}
+use Rattle.ciphers.proofs.Laws.{block-most}
 use Rattle.ciphers.specs.Ciphers.{blockOf}
 use Rattle.steps.specs.Modes.{modeOf, stateOf}
-use Rattle.walks.proofs.Places.{block-most, loaded-whole}
+use Rattle.walks.proofs.Places.{loaded-whole}
 use borrow.Author.Needs.{needs}
 use Rattle.walks.proofs.headers.turn.Statement.{statement}
 use Rattle.walks.proofs.headers.turn.Tie as tie

@@ -3,7 +3,8 @@ use Prim.Native.Nat.{_-_}
 use native.Mathlib.Omega.{arith}
 use lib.ListN.{length}
 use borrow.Author.Needs.{needs}
-use Rattle.walks.proofs.Places.{block-some, part-long}
+use Rattle.ciphers.proofs.Laws.{block-some}
+use Rattle.walks.proofs.Places.{part-long}
 use Rattle.walks.proofs.Walked.{Walked, walked-none, walked-more, walked-end}
 use Rattle.walks.proofs.headers.walk.Statement.{statement}
 use Rattle.walks.proofs.headers.walk.Tie as tie

@@ -1,7 +1,7 @@
 -- `walks::opening::end` meets its contract: by what the step ensures of the last block, and the test. Assumes nothing.
 use native.Mathlib.Omega.{arith}
+use Rattle.ciphers.proofs.Laws.{block-most}
 use Rattle.walks.proofs.Opened.{ended}
-use Rattle.walks.proofs.Places.{block-most}
 use borrow.Author.Needs.{needs}
 use Rattle.walks.proofs.opening.end.Statement.{statement}
 use Rattle.walks.proofs.opening.end.Tie as tie
@@ -38,8 +38,7 @@ part-judge-end c = search needs
 
 judge-requires : tie.Need-judge-requires
 judge-requires c κs =
-    let after-before = c .before .before .before .before .before .before .before .before .before in
-    let n = after-before .before in
+    let n = c .before .before .before .before .before .before .before .before .before .before in
     let st = n .before .before .before .before in
     (omega (arith, n .block-of .ensures, st .pre .3), omega (arith, n .block-of .ensures, block-most (st .args .c)))
 
@@ -48,8 +47,7 @@ same-length c = search needs
 
 returns : tie.Need-returns
 returns c =
-    let after-before = c .before .before .before in
-    let w = after-before .before in
+    let w = c .before .before .before .before in
     let o = w .before .before .before .before in
     let f = o .before .before in
     let n = f .before in

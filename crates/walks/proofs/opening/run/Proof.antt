@@ -4,8 +4,8 @@ use Prim.Native.Nat.{_-_}
 use native.Mathlib.Omega.{arith}
 use lib.ListN.{length}
 use borrow.Author.Needs.{needs}
+use Rattle.ciphers.proofs.Laws.{block-some}
 use Rattle.walks.proofs.Opened.{Going, going-none, turn-may, going-more, end-may, going-end}
-use Rattle.walks.proofs.Places.{block-some}
 use Rattle.walks.proofs.opening.run.Statement.{statement}
 use Rattle.walks.proofs.opening.run.Tie as tie
 
@@ -63,8 +63,7 @@ add-at c =
 
 loop-less : tie.Need-loop-less Inv-loop μ-loop
 loop-less c =
-    let after-before = c .before .before .before .before .before in
-    let l = after-before .before in
+    let l = c .before .before .before .before .before .before in
     omega (
       arith,
       l .loop .inv .inside,

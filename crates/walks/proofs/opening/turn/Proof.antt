@@ -1,7 +1,8 @@
--- `walks::opening::turn` meets its contract: by what the step ensures of the block. Assumes nothing.
+-- `walks::opening::turn` meets its contract: `turned` of what the callees ensure. Assumes nothing.
 use native.Mathlib.Omega.{arith}
-use Rattle.walks.proofs.Opened.{turned}
-use Rattle.walks.proofs.Places.{block-most}
+use Rattle.ciphers.proofs.Laws.{block-most}
+use Rattle.steps.specs.Modes.{modeOf}
+use Rattle.walks.proofs.Turned.{turned}
 use borrow.Author.Needs.{needs}
 use Rattle.walks.proofs.opening.turn.Statement.{statement}
 use Rattle.walks.proofs.opening.turn.Tie as tie
@@ -26,16 +27,15 @@ same-length c = search needs
 
 returns : tie.Need-returns
 returns c =
-    let after-before = c .before .before in
-    let w = after-before .before in
-    let o = w .before .before .before in
-    let n = o .before .before in
-    let st = n .before .before .before .before in
-    let a = st .args in
-    turned (a .k) (a .c) (a .key) (a .nonce .now) (a .s) (a .part .now) (a .rest .now) (n .block-of .result)
-    (o .before .load .result)
-    (o .open-block .result .out) (o .open-block .result .next) (w .store .last .0) (n .block-of .ensures) (o .before .load .ensures)
-    (o .open-block .ensures) (w .store .ensures) (st .pre .2)
+    let after-store = c .before .before .before in
+    let after-step = after-store .before .before .before in
+    let after-load = after-step .before in
+    let after-block-of = after-load .before in
+    let start = after-block-of .before .before .before .before in
+    let a = start .args in
+    let M = modeOf (a .k) (a .c) (a .key) (a .nonce .now) in
+    turned (a .k) (a .c) (M .back) (M .backNext) (a .s) (a .part .now) (a .rest .now) _ _ _ _ _ (after-block-of .block-of .ensures)
+    (after-load .load .ensures) (after-step .open-block .ensures) (after-store .store .ensures) (start .pre .2)
 
 pub turn-spec : {M : Type 1} → statement M
 turn-spec =

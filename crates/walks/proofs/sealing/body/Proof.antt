@@ -3,10 +3,11 @@ use Prim.Native.Nat.{_-_}
 use native.Mathlib.Omega.{arith}
 use lib.ListN.{length}
 use borrow.Author.Needs.{needs}
-use Rattle.walks.proofs.Places.{block-some, part-long}
+use Rattle.ciphers.proofs.Laws.{block-some}
+use Rattle.walks.proofs.Places.{part-long}
 use Rattle.walks.proofs.Sealed.{Going, going-none, going-more, going-end, going-long}
 use borrow.Author.Needs.{needs}
-use Rattle.walks.proofs.Places.{block-some, part-long}
+use Rattle.walks.proofs.Places.{part-long}
 use Rattle.walks.proofs.Sealed.{Going, going-none, going-more, going-end, going-long}
 use Rattle.walks.proofs.sealing.body.Statement.{statement}
 use Rattle.walks.proofs.sealing.body.Tie as tie

@@ -3,9 +3,10 @@ use mathlib.Core.Path.{ap, _∙_}
 use Prim.Native.Nat.{ℕ}
 use native.Mathlib.Omega.{arith}
 use lib.ListN.{length, length-take, length-drop}
+use Rattle.ciphers.proofs.Laws.{block-most}
 use Rattle.modes.specs.Blocks.{full}
 use Rattle.ciphers.specs.Ciphers.{blockOf}
-use Rattle.walks.proofs.Places.{block-most, loaded}
+use Rattle.walks.proofs.Places.{loaded}
 use Rattle.walks.proofs.Sealed.{end-is, end-long}
 use borrow.Author.Needs.{needs}
 use Rattle.walks.proofs.sealing.end.Statement.{statement}

@@ -1,10 +1,8 @@
--- `walks::sealing::turn` meets its contract: one step on the block that was loaded, and what it gives stored. Assumes nothing.
-use mathlib.Core.Path.{ap, _∙_}
+-- `walks::sealing::turn` meets its contract: `turned` of what the callees ensure. Assumes nothing.
 use native.Mathlib.Omega.{arith}
-use Rattle.ciphers.specs.Ciphers.{blockOf}
-use Rattle.steps.specs.Modes.{modeOf, stateOf}
-use Rattle.walks.proofs.Places.{block-most, loaded-whole}
-use Rattle.walks.proofs.Sealed.{stored, stored-long}
+use Rattle.ciphers.proofs.Laws.{block-most}
+use Rattle.steps.specs.Modes.{modeOf}
+use Rattle.walks.proofs.Turned.{turned}
 use borrow.Author.Needs.{needs}
 use Rattle.walks.proofs.sealing.turn.Statement.{statement}
 use Rattle.walks.proofs.sealing.turn.Tie as tie
@@ -33,21 +31,14 @@ same-length c = search needs
 returns : tie.Need-returns
 returns c =
     let after-store = c .before .before .before in
-    let after-seal-block = after-store .before .before .before in
-    let after-load = after-seal-block .before in
+    let after-step = after-store .before .before .before in
+    let after-load = after-step .before in
     let after-block-of = after-load .before in
     let start = after-block-of .before .before .before .before in
     let a = start .args in
-    let n = blockOf (a .c) in
     let M = modeOf (a .k) (a .c) (a .key) (a .nonce .now) in
-    let st = stateOf (a .k) n (a .s) in
-    let e = after-block-of .block-of .ensures in
-    let t = after-seal-block .seal-block .ensures in
-    let l = loaded-whole _ n _ (a .part .now) e (after-load .load .ensures) (start .pre .2) in
-    let y = t .out-is ∙ ap (M .out st) l in (
-      (t .next-is ∙ ap (M .next st) l, t .number),
-      (stored _ n _ _ _ _ e y (after-store .store .ensures), stored-long n _ _ (block-most (a .c)) (t .long) y),
-    )
+    turned (a .k) (a .c) (M .out) (M .next) (a .s) (a .part .now) (a .rest .now) _ _ _ _ _ (after-block-of .block-of .ensures)
+    (after-load .load .ensures) (after-step .seal-block .ensures) (after-store .store .ensures) (start .pre .2)
 
 pub turn-spec : {M : Type 1} → statement M
 turn-spec =

@@ -2,9 +2,9 @@
 use Prim.Native.Nat.{_<_}
 use native.Mathlib.Omega.{arith}
 use lib.ListN.{length, length-take}
+use Rattle.ciphers.proofs.Laws.{block-most}
 use Rattle.ciphers.specs.Ciphers.{blockOf}
 use Rattle.steps.specs.Modes.{modeOf}
-use Rattle.walks.proofs.Places.{block-most}
 use Rattle.walks.proofs.Wholes.{open-none, open-none-room, open-none-long, open-some, open-some-room, open-some-long}
 use borrow.Author.Needs.{needs}
 use Rattle.walks.proofs.whole.open.Statement.{statement}

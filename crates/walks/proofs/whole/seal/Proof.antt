@@ -1,8 +1,8 @@
 -- `walks::whole::seal` meets its contract: the header, and then one block or the walk over the body. Assumes nothing.
 use native.Mathlib.Omega.{arith}
+use Rattle.ciphers.proofs.Laws.{block-most}
 use Rattle.ciphers.specs.Ciphers.{blockOf}
 use Rattle.steps.specs.Modes.{modeOf}
-use Rattle.walks.proofs.Places.{block-most}
 use Rattle.walks.proofs.Wholes.{seal-none, seal-some}
 use borrow.Author.Needs.{needs}
 use Rattle.walks.proofs.whole.seal.Statement.{statement}
