@@ -1,5 +1,5 @@
--- The table of schemes: every scheme that a number names fits the walks, a call by its number is the call under it, and numbers
--- other than 1, 2 and 3 name none. Assumes nothing.
+-- The table of schemes: 1, 2 and 3 name the three, other numbers none; every scheme that is named fits the walks, and a call by its
+-- number is the call under it. Assumes nothing.
 use mathlib.Core.Path.{_≡_, refl, ap, subst}
 use Prim.Native.Nat.{ℕ}
 use native.Mathlib.Omega.{arith}
@@ -13,6 +13,24 @@ use Rattle.sealing.specs.declared.schemes.Named.{Named}
 use Rattle.sealing.specs.declared.schemes.Named.the-variants.{Known, Unknown}
 use Rattle.sealing.specs.Schemes.{scheme1, scheme2, scheme3, schemeOf, Fits}
 use Rattle.sealing.specs.Calls.{under, sealUnder, openUnder, sealOf, openOf}
+
+-- ---- what the numbers name
+
+pub named-1 : schemeOf 1 ≡ Known scheme1
+unfolding schemeOf
+named-1 = refl
+
+pub named-2 : schemeOf 2 ≡ Known scheme2
+unfolding schemeOf
+named-2 = refl
+
+pub named-3 : schemeOf 3 ≡ Known scheme3
+unfolding schemeOf
+named-3 = refl
+
+pub none-named : (number : ℕ) → (number ≡ 1 → ⊥) → (number ≡ 2 → ⊥) → (number ≡ 3 → ⊥) → schemeOf number ≡ Unknown
+unfolding schemeOf
+none-named number a b c = simp (ne-eqb number 1 a, ne-eqb number 2 b, ne-eqb number 3 c)
 
 -- ---- what is named fits
 
@@ -53,9 +71,3 @@ module _ (number : ℕ) (s : Scheme) (known : schemeOf number ≡ Known s) (key 
   pub open-known : openOf number key nonce header input room ≡ openUnder s key nonce header input room
   unfolding openOf
   open-known = ap (λ (m : Named). under m (λ s. openUnder s key nonce header input room) room) known
-
--- ---- every other number
-
-pub none-named : (number : ℕ) → (number ≡ 1 → ⊥) → (number ≡ 2 → ⊥) → (number ≡ 3 → ⊥) → schemeOf number ≡ Unknown
-unfolding schemeOf
-none-named number a b c = simp (ne-eqb number 1 a, ne-eqb number 2 b, ne-eqb number 3 c)

@@ -110,8 +110,53 @@ pub fn unfork(
     }
 }
 
-/// Seals a body into the room. A run without a byte has a pointer too, which
-/// is not null.
+/// Seal and open have one shape.
+type Entry = unsafe extern "C" fn(
+    u32,
+    *const u8,
+    usize,
+    *const u8,
+    usize,
+    *const u8,
+    usize,
+    *const u8,
+    usize,
+    *mut u8,
+    usize,
+    *mut usize,
+) -> u32;
+
+/// One call of either. A run without a byte has a pointer too, which is not
+/// null.
+fn answer(
+    entry: Entry,
+    scheme: u32,
+    [key, nonce, header, text]: [&[u8]; 4],
+    room: &mut [u8],
+) -> Answer {
+    let mut length = UNWRITTEN;
+    // Every run outlives the call and is as long as the number behind it
+    // says; room and length are written by this call alone.
+    let number = unsafe {
+        entry(
+            scheme,
+            key.as_ptr(),
+            key.len(),
+            nonce.as_ptr(),
+            nonce.len(),
+            header.as_ptr(),
+            header.len(),
+            text.as_ptr(),
+            text.len(),
+            room.as_mut_ptr(),
+            room.len(),
+            &mut length,
+        )
+    };
+    Answer { number, length }
+}
+
+/// Seals a body into the room.
 pub fn seal(
     scheme: u32,
     key: &[u8],
@@ -120,26 +165,7 @@ pub fn seal(
     body: &[u8],
     room: &mut [u8],
 ) -> Answer {
-    let mut length = UNWRITTEN;
-    // Every run outlives the call and is as long as the number behind it
-    // says; room and length are written by this call alone.
-    let number = unsafe {
-        auraski_seal(
-            scheme,
-            key.as_ptr(),
-            key.len(),
-            nonce.as_ptr(),
-            nonce.len(),
-            header.as_ptr(),
-            header.len(),
-            body.as_ptr(),
-            body.len(),
-            room.as_mut_ptr(),
-            room.len(),
-            &mut length,
-        )
-    };
-    Answer { number, length }
+    answer(auraski_seal, scheme, [key, nonce, header, body], room)
 }
 
 /// Opens a sealed run into the room.
@@ -151,25 +177,7 @@ pub fn open(
     run: &[u8],
     room: &mut [u8],
 ) -> Answer {
-    let mut length = UNWRITTEN;
-    // As above.
-    let number = unsafe {
-        auraski_open(
-            scheme,
-            key.as_ptr(),
-            key.len(),
-            nonce.as_ptr(),
-            nonce.len(),
-            header.as_ptr(),
-            header.len(),
-            run.as_ptr(),
-            run.len(),
-            room.as_mut_ptr(),
-            room.len(),
-            &mut length,
-        )
-    };
-    Answer { number, length }
+    answer(auraski_open, scheme, [key, nonce, header, run], room)
 }
 
 /// Hides where a value comes from, so that no call of the benchmark is worked

@@ -106,7 +106,7 @@ fn name_of(kind: Kind) -> String {
 
 pub fn print_table() {
     println!(
-        "ns per call, the quickest of {} batches of {} calls, the two sides taking turns",
+        "ns per call, the quickest of at most {} batches of {} calls, the two sides taking turns",
         BATCHES.count, BATCHES.calls
     );
     println!("second/ours above 1 means that ours is quicker");

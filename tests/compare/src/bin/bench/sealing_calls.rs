@@ -122,8 +122,10 @@ fn print_line(kind: Kind) {
 }
 
 pub fn print_table() {
-    println!("ns per call and per byte of body (/B) under a header of 16 bytes, the quickest of");
-    println!("so many batches of so many calls, the two sides taking turns");
+    println!(
+        "ns per call and per byte of body (/B) under a header of 16 bytes, the quickest of at"
+    );
+    println!("most so many batches of so many calls, the two sides taking turns");
     println!("second/ours above 1 means that ours is quicker");
     println!(
         "{:6} {:4} {:>7} {:>7} {:>5} {:>9} {:>9} {:>8} {:>8} {:>12}",
