@@ -1,3 +1,4 @@
+mod Going
 mod Opened
 mod Places
 mod Sealed

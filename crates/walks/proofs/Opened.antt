@@ -1,7 +1,7 @@
 -- Opening a run, from what the callees ensure.
 --     judged-yes, judged-no   the test at its end: its two returns
 --     ended                   the last block, and the bytes behind it
---     Going                   the loop's invariant: how it begins, what a turn and the end require, and what they do to it
+--     OpenGoing               the loop's invariant: how it begins, what a turn and the end require, and what they do to it
 -- Assumes nothing.
 use mathlib.Core.Path.{_≡_, refl, sym, ap, ap₂, _∙_, subst, subst⁻¹}
 use mathlib.Core.Bool.{Bool, true, false, _&&_}
@@ -22,9 +22,10 @@ use Rattle.steps.specs.declared.State.{State}
 use Rattle.steps.specs.Modes.{Carried, modeOf, stateOf}
 use Rattle.steps.specs.Steps.{Paired}
 use Rattle.blocks.proofs.Parts.{part-rest}
+use Rattle.walks.proofs.Going.{Going, going-none, going-more}
 use Rattle.walks.proofs.Places.{block-first, part-long}
 use Rattle.walks.proofs.Turned.{Turned}
-use Rattle.walks.proofs.Writing.{Writing, writing-none, writing-more, writing-end, writing-reach}
+use Rattle.walks.proofs.Writing.{writing-end, writing-reach}
 
 -- ---- the test
 
@@ -129,35 +130,23 @@ module _ (k : Kind) (c : Cipher) (key nonce : List ℕ) (s : State) (part rest�
 
 -- ---- the loop
 
--- s is the state at `at`, and room what the loop has made of room₀
-pub record Going (k : Kind) (c : Cipher) (key nonce run : List ℕ) (start : State) (room₀ : List ℕ) (s : State) (at : ℕ) (room : List ℕ)
-    : Type 0 where
-  pub writing
-      : Writing
-      (λ (done : List ℕ).
-      Opening (blockOf c) (modeOf k c key nonce) (stateOf k (blockOf c) s) run at done
-      (openRest (blockOf c) (modeOf k c key nonce) (stateOf k (blockOf c) start) run))
-      room₀ at room
-  pub inside : at + blockOf c < length run
-  pub number : s .number ≤ at + 1
-
-pub going-none : (k : Kind) (c : Cipher) (key nonce run : List ℕ) (start : State) (room : List ℕ) → start .number ≤ 1
-    → blockOf c < length run → Going k c key nonce run start room start 0 room
-going-none k c key nonce run start room e h =
+-- what holds of what is laid down: in front of what the rest opens to, it is what the run opens to
+abbrev pub Opens : (k : Kind) (c : Cipher) (key nonce run : List ℕ) (start s : State) (at : ℕ) (done : List ℕ) → Type 0
+Opens k c key nonce run start s at done =
     let n = blockOf c in
     let M = modeOf k c key nonce in
-    let st = stateOf k n start in
-    let all = openRest n M st run in
-    record {
-      writing = writing-none (λ (done : List ℕ). Opening n M st run 0 done all) room (open-begin n M (block-some c) st run);
-      inside = omega arith;
-      number = omega arith;
-    }
+    Opening n M (stateOf k n s) run at done (openRest n M (stateOf k n start) run)
 
-module _
-    {k : Kind} {c : Cipher} {key nonce run : List ℕ} {start : State} {room₀ : List ℕ} {s : State} {at : ℕ} {room : List ℕ}
-    (g : Going k c key nonce run start room₀ s at room)
-  where
+module _ (k : Kind) (c : Cipher) (key nonce run : List ℕ) (start : State) (room₀ : List ℕ) where
+  abbrev pub OpenGoing : State → ℕ → List ℕ → Type 0
+  OpenGoing = Going (length run - blockOf c) (Opens k c key nonce run start) room₀
+
+  pub opening-none : start .number ≤ 1 → blockOf c < length run → OpenGoing start 0 room₀
+  opening-none e h =
+      going-none (length run - blockOf c) (Opens k c key nonce run start) room₀ start
+      (open-begin (blockOf c) (modeOf k c key nonce) (block-some c) (stateOf k (blockOf c) start) run) (omega arith) e
+
+  module _ {s : State} {at : ℕ} {room : List ℕ} (g : OpenGoing s at room) where
     abbrev size : ℕ
     size = blockOf c
 
@@ -181,21 +170,15 @@ module _
     whole ys = take at room ++ (ys ++ drop (length room - at) (drop at room))
 
     more : (s′ : State) (ys : List ℕ) → at + size + size < length run → length run ≤ length room₀ + size
-        → Turned k c (mode .back) (mode .backNext) s lent left s′ ys → Going k c key nonce run start room₀ s′ (at + size) (whole ys)
+        → Turned k c (mode .back) (mode .backNext) s lent left s′ ys → OpenGoing s′ (at + size) (whole ys)
     more s′ ys h f t =
         let x = take size (drop at run) in
         let y = mode .back here (take size lent) in
         let e : take size lent ≡ x = ap (take size) (part-rest at run) in
-        record {
-          writing =
-              writing-more (g .writing) size y ys (t .1 .1) (omega arith) (t .1 .0)
-              (λ (done : List ℕ). Opening size mode (stateOf k size s′) run (at + size) done all)
-              (λ done o.
-              open-turn size mode (block-some c) here (stateOf k size s′) run at done all x y o h refl (ap (mode .back here) e)
-              (t .0 .0 ∙ ap (mode .backNext here) e));
-          inside = h;
-          number = omega (arith, t .0 .1, g .number, block-some c);
-        }
+        going-more g size s′ y ys (block-some c) (omega arith) (omega arith) (t .0 .1) (t .1 .1) (t .1 .0)
+        (λ done o.
+        open-turn size mode (block-some c) here (stateOf k size s′) run at done all x y o h refl (ap (mode .back here) e)
+        (t .0 .0 ∙ ap (mode .backNext here) e))
 
     -- m is the n of the code, and there is room for what the run opens to
     module _ (m : ℕ) (em : m ≡ size) (b : length run ≤ 4294967295) (f : length run ≤ length room₀ + size) where
@@ -209,10 +192,9 @@ module _
             let q = part-long at room in
             (omega (arith, g .number), omega arith, omega arith)
 
-        pub going-more : (s′ : State) (ys : List ℕ) → Turned k c (mode .back) (mode .backNext) s lent left s′ ys
-            → Going k c key nonce run start room₀ s′ (at + m) (whole ys)
-        going-more s′ ys t =
-            subst⁻¹ (λ (j : ℕ). Going k c key nonce run start room₀ s′ (at + j) (whole ys)) em (more s′ ys (omega arith) f t)
+        pub opening-more : (s′ : State) (ys : List ℕ) → Turned k c (mode .back) (mode .backNext) s lent left s′ ys
+            → OpenGoing s′ (at + m) (whole ys)
+        opening-more s′ ys t = subst⁻¹ (λ (j : ℕ). OpenGoing s′ (at + j) (whole ys)) em (more s′ ys (omega (arith, h, em)) f t)
 
       -- what the end requires, and what it comes to
       module _ (h : length run - m - at ≤ m) where
@@ -229,9 +211,9 @@ module _
             ap (λ (t : List ℕ). before done (openLast size mode here t)) (part-rest at run)
             ∙ open-end size mode (block-some c) here run at done all o (omega arith)
 
-        pub going-end : (is : Bool) (ys : List ℕ) → Ended k c key nonce s lent left is ys
+        pub opening-end : (is : Bool) (ys : List ℕ) → Ended k c key nonce s lent left is ys
             → (is ≡ all .authentic) × ((whole ys ≡ all .body ++ drop (length run - size) room₀) × (length (all .body) ≡ length run - size))
-        going-end is ys e =
+        opening-end is ys e =
             let i = g .inside in
             let p = part-long at run in
             let j = length lent - size in

@@ -18,8 +18,10 @@ use Rattle.steps.specs.declared.Kind.{Kind}
 use Rattle.steps.specs.declared.State.{State}
 use Rattle.steps.specs.Modes.{Carried, modeOf, stateOf}
 use Rattle.steps.specs.Steps.{Paired}
+use Rattle.walks.proofs.Going.{Going, going-none, going-more}
 use Rattle.walks.proofs.Places.{block-first, part-long}
-use Rattle.walks.proofs.Writing.{Writing, writing-none, writing-more, writing-end, writing-long}
+use Rattle.walks.proofs.Turned.{Turned}
+use Rattle.walks.proofs.Writing.{writing-end}
 
 module _ (c : Cipher) (k : Kind) (key nonce : List ℕ) where
   abbrev n : ℕ
@@ -80,64 +82,51 @@ module _ (c : Cipher) (k : Kind) (key nonce : List ℕ) where
     abbrev all : List ℕ
     all = sealRest n M (stateOf k n s₀) body
 
-    pub record Going (N : ℕ) (s : State) (at : ℕ) (room : List ℕ) : Type 0 where
-      pub size : N ≡ n
-      pub inside : at < length body
-      pub number : s .number ≤ at + 1
-      pub writing : Writing (λ done. Sealing n M (stateOf k n s) body at done all) room₀ at room
+    -- what holds of what is laid down: with the rest sealed behind it, it is what the body is sealed to
+    abbrev pub Seals : State → ℕ → List ℕ → Type 0
+    Seals s at done = Sealing n M (stateOf k n s) body at done all
 
-    pub going-none : (N : ℕ) → N ≡ n → 0 < length body → s₀ .number ≤ 1 → Going N s₀ 0 room₀
-    going-none N e h q = record {
-      size = e;
-      inside = h;
-      number = omega (arith, q);
-      writing = writing-none _ room₀ (seal-begin n M (block-some c) (stateOf k n s₀) body);
-    }
+    abbrev pub SealGoing : State → ℕ → List ℕ → Type 0
+    SealGoing = Going (length body) Seals room₀
+
+    pub sealing-none : 0 < length body → s₀ .number ≤ 1 → SealGoing s₀ 0 room₀
+    sealing-none = going-none (length body) Seals room₀ s₀ (seal-begin n M (block-some c) (stateOf k n s₀) body)
 
     abbrev part : ℕ → List ℕ
     part at = take (length body - at) (drop at body)
 
-    abbrev given : State → ℕ → List ℕ
-    given s at = M .out (stateOf k n s) (take n (part at))
+    module _ {s : State} {at : ℕ} {room : List ℕ} (g : SealGoing s at room) (N : ℕ) (size : N ≡ n) (fits : length body + n ≤ length room₀)
+        (ys : List ℕ) where
+      abbrev here : Carried k
+      here = stateOf k n s
 
-    pub going-more : {N : ℕ} {s : State} {at : ℕ} {room : List ℕ} → Going N s at room → (s′ : State) (ys : List ℕ)
-        → N < length body - at → length body + n ≤ length room₀
-        → stateOf k n s′ ≡ M .next (stateOf k n s) (take n (part at)) → s′ .number ≤ s .number + 1
-        → ys ≡ given s at ++ drop n (take (length room - at) (drop at room)) → length (given s at) ≡ n
-        → Going N s′ (at + N) (take at room ++ (ys ++ drop (length room - at) (drop at room)))
-    going-more {N} {s} {at} {room} g s′ ys h fits e q put l =
-        let lt : at + n < length body = omega (arith, g .size, h) in
-        subst (λ (m : ℕ). Going N s′ (at + m) (take at room ++ (ys ++ drop (length room - at) (drop at room)))) (sym (g .size))
-        (record {
-          size = g .size;
-          inside = lt;
-          number = omega (arith, g .number, q, block-some c);
-          writing =
-              writing-more (g .writing) n (given s at) ys l (omega (arith, lt, fits)) put _
-              (λ done sealing. seal-turn n M (block-some c) (stateOf k n s) (stateOf k n s′) body at done all (take n (part at)) (given s at) sealing lt (ap (take n) (part-rest at body)) refl e);
-        })
+      abbrev rest : List ℕ
+      rest = take (length room - at) (drop at room)
 
-    -- the last block was put into the rest
-    abbrev last : State → ℕ → List ℕ
-    last s at = sealLast n M (stateOf k n s) (part at)
-
-    module _ {N : ℕ} {s : State} {at : ℕ} {room : List ℕ} (g : Going N s at room) (ys : List ℕ) (h : length body - at ≤ N)
-        (fits : length body + n ≤ length room₀)
-        (put : ys ≡ last s at ++ drop (length (part at) + n) (take (length room - at) (drop at room)))
-        (l : length (last s at) ≡ length (part at) + n) where
+      -- the room, when the rest came back as ys
       abbrev after : List ℕ
       after = take at room ++ (ys ++ drop (length room - at) (drop at room))
 
-      pub going-end : after ≡ all ++ drop (length body + n) room₀
-      going-end =
+      pub sealing-more : (s′ : State) → N < length body - at → Turned k c (M .out) (M .next) s (part at) rest s′ ys
+          → SealGoing s′ (at + N) after
+      sealing-more s′ h t =
+          let lt : at + n < length body = omega (arith, size, h) in
+          let y = M .out here (take n (part at)) in
+          subst (λ (m : ℕ). SealGoing s′ (at + m) after) (sym size)
+          (going-more g n s′ y ys (block-some c) lt (omega (arith, fits)) (t .0 .1) (t .1 .1) (t .1 .0)
+          (λ done sealing.
+          seal-turn n M (block-some c) here (stateOf k n s′) body at done all (take n (part at)) y sealing lt
+          (ap (take n) (part-rest at body)) refl (t .0 .0)))
+
+      -- the last block was put into the rest
+      pub sealing-end : length body - at ≤ N
+          → (ys ≡ sealLast n M here (part at) ++ drop (length (part at) + n) rest) × (length (sealLast n M here (part at)) ≡ length (part at) + n)
+          → after ≡ all ++ drop (length body + n) room₀
+      sealing-end h e =
           let m : length (part at) ≡ length body - at = part-long at body in
           let sum : at + (length (part at) + n) ≡ length body + n = omega (arith, m, g .inside) in
-          writing-end (g .writing) (length (part at) + n) (last s at) ys l (omega (arith, sum, fits)) put all
-          (λ done sealing. ap (λ (t : List ℕ). done ++ sealLast n M (stateOf k n s) t) (part-rest at body)
-          ∙ seal-end n M (block-some c) (stateOf k n s) body at done all sealing (omega (arith, g .size, h)))
+          writing-end (g .writing) (length (part at) + n) (sealLast n M here (part at)) ys (e .1) (omega (arith, sum, fits)) (e .0) all
+          (λ done sealing.
+          ap (λ (t : List ℕ). done ++ sealLast n M here t) (part-rest at body)
+          ∙ seal-end n M (block-some c) here body at done all sealing (omega (arith, size, h)))
           ∙ ap (λ (j : ℕ). all ++ drop j room₀) sum
-
-      pub going-long : length after ≡ length room₀
-      going-long =
-          let m : length (part at) ≡ length body - at = part-long at body in
-          writing-long (g .writing) (length (part at) + n) (last s at) ys l (omega (arith, m, g .inside, fits)) put

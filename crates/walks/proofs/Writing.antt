@@ -35,7 +35,3 @@ module _ {P : List ℕ → Type 0} {room₀ room : List ℕ} {at : ℕ} (w : Wri
   -- how long it is
   pub writing-reach : (all : List ℕ) → ((done : List ℕ) → P done → done ++ x ≡ all) → length all ≡ at + n
   writing-reach all f = sym (ap length (f (w .done) (w .holds))) ∙ more .reach
-
-  -- and nothing is left out
-  pub writing-long : length after ≡ length room₀
-  writing-long = more .long

@@ -20,7 +20,7 @@ same-false x y h = go (same x y) refl
     go false e = e
 
 abbrev Inv-loop : tie.InvT-loop
-Inv-loop a b at₀ at = (length a ≡ length b) × (at ≤ length a) × (take at a ≡ take at b)
+Inv-loop a b at₀ at = (length a ≡ length b) × (take at a ≡ take at b) × (at ≤ length a)
 
 abbrev μ-loop : tie.MeasureT-loop
 μ-loop a b at₀ at = length a - at
@@ -29,7 +29,7 @@ returns : tie.Need-returns Inv-loop μ-loop
 returns c = sym (same-false (c .before .args .a .now) (c .before .args .b .now) (λ e. c .if1 .taken (ap length e)))
 
 loop-holds : tie.Need-loop-holds Inv-loop μ-loop
-loop-holds c = (c .if1 .left, omega arith, refl)
+loop-holds c = (c .if1 .left, refl, omega arith)
 
 shared-slice-read-if2 : tie.Need-shared-slice-read-if2 Inv-loop μ-loop
 shared-slice-read-if2 c = omega arith
@@ -57,8 +57,11 @@ loop-again c =
     let b = l .before .before .args .b .now in
     let i = l .loop .at in (
       l .loop .inv .0,
+      rw add-one
+          (take-suc a i 0 (omega arith)
+          ∙ ap₂ (λ (q : List ℕ) (v : ℕ). q ++ v ∷ []) (l .loop .inv .1) (c .if2 .left)
+          ∙ sym (take-suc b i 0 (omega arith))),
       omega arith,
-      rw add-one (take-suc a i 0 (omega arith) ∙ ap₂ (λ (q : List ℕ) (v : ℕ). q ++ v ∷ []) (l .loop .inv .2) (c .if2 .left) ∙ sym (take-suc b i 0 (omega arith))),
     )
 
 returns-3 : tie.Need-returns-3 Inv-loop μ-loop
@@ -67,7 +70,7 @@ returns-3 c =
     let a = l .before .before .args .a .now in
     let b = l .before .before .args .b .now in
     let i = l .loop .at in
-    let e : a ≡ b = sym (take-all i a (omega arith)) ∙ l .loop .inv .2 ∙ take-all i b (omega arith) in
+    let e : a ≡ b = sym (take-all i a (omega arith)) ∙ l .loop .inv .1 ∙ take-all i b (omega arith) in
     sym (ap (same a) (sym e) ∙ same-refl a)
 
 pub equal-spec : {M : Type 1} → statement M

@@ -6,18 +6,6 @@ use borrow.Author.Tests.{ltb-false}
 use Rattle.ciphers.proofs.Laws.{block-most}
 use Rattle.sealing.proofs.Passed.{check-passed, check-long}
 use Rattle.sealing.proofs.Answers.{key-whole, open-refuses, open-does, open-forges}
-use borrow.Author.Tests.{ltb-false}
-use Rattle.sealing.proofs.Passed.{check-passed, check-long}
-use Rattle.sealing.proofs.Answers.{key-whole, open-refuses, open-does, open-forges}
-use borrow.Author.Tests.{ltb-false}
-use Rattle.sealing.proofs.Passed.{check-passed, check-long}
-use Rattle.sealing.proofs.Answers.{key-whole, open-refuses, open-does, open-forges}
-use borrow.Author.Tests.{ltb-false}
-use Rattle.sealing.proofs.Passed.{check-passed, check-long}
-use Rattle.sealing.proofs.Answers.{key-whole, open-refuses, open-does, open-forges}
-use borrow.Author.Tests.{ltb-false}
-use Rattle.sealing.proofs.Passed.{check-passed, check-long}
-use Rattle.sealing.proofs.Answers.{key-whole, open-refuses, open-does, open-forges}
 use borrow.Author.Needs.{needs}
 use Rattle.sealing.proofs.open_under.Statement.{statement}
 use Rattle.sealing.proofs.open_under.Tie as tie

@@ -3,18 +3,6 @@ use native.Mathlib.Omega.{arith}
 use borrow.Author.Tests.{eq-eqb, ne-eqb, lt-ltb, le-ltb}
 use lib.ListN.{length-take}
 use Rattle.sealing.specs.View.{viewOf}
-use borrow.Author.Tests.{eq-eqb, ne-eqb, lt-ltb, le-ltb}
-use lib.ListN.{length-take}
-use Rattle.sealing.specs.View.{viewOf}
-use borrow.Author.Tests.{eq-eqb, ne-eqb, lt-ltb, le-ltb}
-use lib.ListN.{length-take}
-use Rattle.sealing.specs.View.{viewOf}
-use borrow.Author.Tests.{eq-eqb, ne-eqb, lt-ltb, le-ltb}
-use lib.ListN.{length-take}
-use Rattle.sealing.specs.View.{viewOf}
-use borrow.Author.Tests.{eq-eqb, ne-eqb, lt-ltb, le-ltb}
-use lib.ListN.{length-take}
-use Rattle.sealing.specs.View.{viewOf}
 use borrow.Author.Needs.{needs}
 use Rattle.sealing.proofs.view.Statement.{statement}
 use Rattle.sealing.proofs.view.Tie as tie

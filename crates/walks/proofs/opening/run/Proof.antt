@@ -5,12 +5,12 @@ use native.Mathlib.Omega.{arith}
 use lib.ListN.{length}
 use borrow.Author.Needs.{needs}
 use Rattle.ciphers.proofs.Laws.{block-some}
-use Rattle.walks.proofs.Opened.{Going, going-none, turn-may, going-more, end-may, going-end}
+use Rattle.walks.proofs.Opened.{OpenGoing, opening-none, turn-may, opening-more, end-may, opening-end}
 use Rattle.walks.proofs.opening.run.Statement.{statement}
 use Rattle.walks.proofs.opening.run.Tie as tie
 
 abbrev Inv-loop : tie.InvT-loop
-Inv-loop c k key nonce run room₀ n s₀ at₀ room s at = Going k c key nonce run s₀ room₀ s at room
+Inv-loop c k key nonce run room₀ n s₀ at₀ room s at = OpenGoing k c key nonce run s₀ room₀ s at room
 
 abbrev μ-loop : tie.MeasureT-loop
 μ-loop c k key nonce run room₀ n s₀ at₀ room s at = length run - at
@@ -22,7 +22,7 @@ loop-holds : tie.Need-loop-holds Inv-loop μ-loop
 loop-holds c =
     let st = c .before .before .before .before in
     let a = st .args in
-    going-none (a .k) (a .c) (a .key) (a .nonce .now) (a .run .now) (a .start) (a .room .now) (st .pre .1) (st .pre .2)
+    opening-none (a .k) (a .c) (a .key) (a .nonce .now) (a .run .now) (a .start) (a .room .now) (st .pre .1) (st .pre .2)
 
 sub-loop : tie.Need-sub-loop Inv-loop μ-loop
 sub-loop c = omega (arith, c .before .block-of .ensures, c .loop .inv .inside)
@@ -53,7 +53,8 @@ turn-requires c κs =
     let i = c .before .before in
     let n = i .before .before in
     let st = n .before .before .before .before in
-    let m = turn-may (i .before .loop .inv) (n .block-of .result) (n .block-of .ensures) (st .pre .3) (st .pre .4) (i .loop-test .taken) in
+    let a = st .args in
+    let m = turn-may (a .k) (a .c) (a .key) (a .nonce .now) (a .run .now) (a .start) (a .room .now) (i .before .loop .inv) (n .block-of .result) (n .block-of .ensures) (st .pre .3) (st .pre .4) (i .loop-test .taken) in
     (st .pre .0, m .0, m .1, m .2)
 
 add-at : tie.Need-add-at Inv-loop μ-loop
@@ -79,7 +80,8 @@ loop-again c =
     let l = i .before in
     let n = l .before in
     let st = n .before .before .before .before in
-    going-more (l .loop .inv) (n .block-of .result) (n .block-of .ensures) (st .pre .3) (st .pre .4) (i .loop-test .taken) (r .turn .result)
+    let a = st .args in
+    opening-more (a .k) (a .c) (a .key) (a .nonce .now) (a .run .now) (a .start) (a .room .now) (l .loop .inv) (n .block-of .result) (n .block-of .ensures) (st .pre .3) (st .pre .4) (i .loop-test .taken) (r .turn .result)
     (r .turn .last .1 .1 .1 .1 .1 .1 .0) (r .turn .ensures)
 
 sub-end : tie.Need-sub-end Inv-loop μ-loop
@@ -105,7 +107,8 @@ end-requires c κs =
     let i = c .before .before in
     let n = i .before .before in
     let st = n .before .before .before .before in
-    let m = end-may (i .before .loop .inv) (n .block-of .result) (n .block-of .ensures) (st .pre .3) (st .pre .4) (i .loop-test .left) in
+    let a = st .args in
+    let m = end-may (a .k) (a .c) (a .key) (a .nonce .now) (a .run .now) (a .start) (a .room .now) (i .before .loop .inv) (n .block-of .result) (n .block-of .ensures) (st .pre .3) (st .pre .4) (i .loop-test .left) in
     (st .pre .0, m .0, m .1, m .2, m .3)
 
 same-length : tie.Need-same-length Inv-loop μ-loop
@@ -118,7 +121,8 @@ returns c =
     let l = i .before in
     let n = l .before in
     let st = n .before .before .before .before in
-    going-end (l .loop .inv) (n .block-of .result) (n .block-of .ensures) (st .pre .3) (st .pre .4) (i .loop-test .left) (r .end .result)
+    let a = st .args in
+    opening-end (a .k) (a .c) (a .key) (a .nonce .now) (a .run .now) (a .start) (a .room .now) (l .loop .inv) (n .block-of .result) (n .block-of .ensures) (st .pre .3) (st .pre .4) (i .loop-test .left) (r .end .result)
     (r .end .last .1 .1 .1 .1 .1 .1 .0) (r .end .ensures)
 
 pub run-spec : {M : Type 1} → statement M

@@ -1,30 +1,28 @@
--- `walks::sealing::body` meets its contract: `Going` holds in every turn. Assumes nothing.
+-- `walks::sealing::body` meets its contract: `SealGoing` holds in every turn. Assumes nothing.
 use Prim.Native.Nat.{_-_}
 use native.Mathlib.Omega.{arith}
 use lib.ListN.{length}
 use borrow.Author.Needs.{needs}
 use Rattle.ciphers.proofs.Laws.{block-some}
 use Rattle.walks.proofs.Places.{part-long}
-use Rattle.walks.proofs.Sealed.{Going, going-none, going-more, going-end, going-long}
-use borrow.Author.Needs.{needs}
-use Rattle.walks.proofs.Places.{part-long}
-use Rattle.walks.proofs.Sealed.{Going, going-none, going-more, going-end, going-long}
+use Rattle.walks.proofs.Sealed.{SealGoing, sealing-none, sealing-more, sealing-end}
 use Rattle.walks.proofs.sealing.body.Statement.{statement}
 use Rattle.walks.proofs.sealing.body.Tie as tie
 
 abbrev Inv-loop : tie.InvT-loop
-Inv-loop c k key nonce body room₀ n s₀ at₀ room s at = Going c k key nonce body room₀ s₀ n s at room
+Inv-loop c k key nonce body room₀ n s₀ at₀ room s at = SealGoing c k key nonce body room₀ s₀ s at room
 
 abbrev μ-loop : tie.MeasureT-loop
 μ-loop c k key nonce body room₀ n s₀ at₀ room s at = length body - at
 
 block-of-requires : tie.Need-block-of-requires Inv-loop μ-loop
-block-of-requires c κs = search needs
+block-of-requires c κs = tt
 
 loop-holds : tie.Need-loop-holds Inv-loop μ-loop
 loop-holds c =
     let start = c .before .before .before .before in
-    going-none _ _ _ _ _ _ _ _ (c .block-of .ensures) (start .pre .2) (start .pre .1)
+    let a = start .args in sealing-none (a .c) (a .k) (a .key) (a .nonce .now) (a .body .now) (a .room .now) (a .start)
+    (start .pre .2) (start .pre .1)
 
 sub-loop : tie.Need-sub-loop Inv-loop μ-loop
 sub-loop c = omega (arith, c .loop .inv .inside)
@@ -57,18 +55,19 @@ turn-requires : tie.Need-turn-requires Inv-loop μ-loop
 turn-requires c κs =
     let in-loop = c .before .before in
     let at-loop = in-loop .before in
-    let start = at-loop .before .before .before .before .before in
+    let after-block-of = at-loop .before in
+    let start = after-block-of .before .before .before .before in
     let l = at-loop .loop in
     let a = start .args in (
       start .pre .0,
       omega (arith, l .inv .number, l .inv .inside, start .pre .3),
-      omega (arith, part-long (l .at) (a .body .now), in-loop .loop-test .taken, l .inv .size),
+      omega (arith, part-long (l .at) (a .body .now), in-loop .loop-test .taken, after-block-of .block-of .ensures),
       omega (
         arith,
         part-long (l .at)
             (l .room),
         in-loop .loop-test .taken,
-        l .inv .size,
+        after-block-of .block-of .ensures,
         l .inv .writing .wrote .long,
         start .pre .4,
       ),
@@ -83,18 +82,20 @@ add-at c =
 loop-less : tie.Need-loop-less Inv-loop μ-loop
 loop-less c =
     let in-loop = c .before .before .before .before .before in
-    let at-loop = in-loop .before in
-    let start = at-loop .before .before .before .before .before in
-    omega (arith, in-loop .loop-test .taken, at-loop .loop .inv .size, block-some (start .args .c))
+    let after-block-of = in-loop .before .before in
+    let start = after-block-of .before .before .before .before in
+    omega (arith, in-loop .loop-test .taken, after-block-of .block-of .ensures, block-some (start .args .c))
 
 loop-again : tie.Need-loop-again Inv-loop μ-loop
 loop-again c =
     let after-turn = c .before .before in
     let in-loop = after-turn .before .before .before in
     let at-loop = in-loop .before in
-    let start = at-loop .before .before .before .before .before in
-    going-more _ _ _ _ _ _ _ (at-loop .loop .inv) _ _ (in-loop .loop-test .taken) (start .pre .4) (after-turn .turn .ensures .0 .0)
-    (after-turn .turn .ensures .0 .1) (after-turn .turn .ensures .1 .0) (after-turn .turn .ensures .1 .1)
+    let after-block-of = at-loop .before in
+    let start = after-block-of .before .before .before .before in
+    let a = start .args in
+    sealing-more (a .c) (a .k) (a .key) (a .nonce .now) (a .body .now) (a .room .now) (a .start) (at-loop .loop .inv) _
+    (after-block-of .block-of .ensures) (start .pre .4) _ _ (in-loop .loop-test .taken) (after-turn .turn .ensures)
 
 sub-end : tie.Need-sub-end Inv-loop μ-loop
 sub-end c = omega (arith, c .before .loop .inv .inside)
@@ -124,12 +125,13 @@ end-requires : tie.Need-end-requires Inv-loop μ-loop
 end-requires c κs =
     let in-loop = c .before .before in
     let at-loop = in-loop .before in
-    let start = at-loop .before .before .before .before .before in
+    let after-block-of = at-loop .before in
+    let start = after-block-of .before .before .before .before in
     let l = at-loop .loop in
     let a = start .args in (
       start .pre .0,
       omega (arith, l .inv .number, l .inv .inside, start .pre .3),
-      omega (arith, part-long (l .at) (a .body .now), in-loop .loop-test .left, l .inv .size),
+      omega (arith, part-long (l .at) (a .body .now), in-loop .loop-test .left, after-block-of .block-of .ensures),
       omega (
         arith,
         part-long (l .at) (a .body .now),
@@ -142,22 +144,18 @@ end-requires c κs =
     )
 
 same-length : tie.Need-same-length Inv-loop μ-loop
-same-length c =
-    let after-end = c .before .before in
-    let in-loop = after-end .before .before .before in
-    let at-loop = in-loop .before in
-    let start = at-loop .before .before .before .before .before in
-    going-long _ _ _ _ _ _ _ (at-loop .loop .inv) _ (in-loop .loop-test .left) (start .pre .4) (after-end .end .ensures .0)
-    (after-end .end .ensures .1)
+same-length c = search needs
 
 returns : tie.Need-returns Inv-loop μ-loop
 returns c =
     let after-end = c .before .before in
     let in-loop = after-end .before .before .before in
     let at-loop = in-loop .before in
-    let start = at-loop .before .before .before .before .before in
-    going-end _ _ _ _ _ _ _ (at-loop .loop .inv) _ (in-loop .loop-test .left) (start .pre .4) (after-end .end .ensures .0)
-    (after-end .end .ensures .1)
+    let after-block-of = at-loop .before in
+    let start = after-block-of .before .before .before .before in
+    let a = start .args in
+    sealing-end (a .c) (a .k) (a .key) (a .nonce .now) (a .body .now) (a .room .now) (a .start) (at-loop .loop .inv) _
+    (after-block-of .block-of .ensures) (start .pre .4) _ (in-loop .loop-test .left) (after-end .end .ensures)
 
 pub body-spec : {M : Type 1} → statement M
 body-spec =
