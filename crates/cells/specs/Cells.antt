@@ -4,7 +4,7 @@
 use mathlib.Core.Path.{_≡_}
 use Prim.Native.Nat.{ℕ, _<_, _+_, _-_, _*_, _/_, _%_, _^_}
 use mathlib.Core.List.{List, [], _∷_}
-use lib.ListN.{getD}
+use lib.ListN.{length, getD}
 
 -- a cell is a nibble where the block has 64 bits, a byte where it has 128 (F.1)
 pub data Width : Type 0 where
@@ -24,6 +24,11 @@ size Byte = 256
 -- every element of a list is a byte; past the end an element counts as 0
 pub record Bytes (b : List ℕ) : Type 0 where
   pub at : (k : ℕ) → getD b k 0 < 256
+
+-- n bytes
+pub record Block (n : ℕ) (b : List ℕ) : Type 0 where
+  pub long : length b ≡ n
+  pub bytes : Bytes b
 
 -- ---- bits
 

@@ -1,7 +1,7 @@
 -- The block calls meet the correctness condition of a forkcipher (the Forkcipher paper, 3.1, conditions 1 to 4), each cipher by
 -- its number; what they take and what they refuse; and a contract leaves a caller one result. Assumes nothing.
 use mathlib.Core.Path.{_≡_, refl, sym, ap, _∙_}
-use mathlib.Core.Bool.{Bool, true, false}
+use mathlib.Core.Bool.{Bool, true, false, cond}
 use mathlib.Core.List.{List}
 use Prim.Native.Nat.{ℕ, zero, suc, _<_}
 use native.Mathlib.Omega.{arith}
@@ -9,12 +9,12 @@ use borrow.Author.Tests.{lt-ltb, le-ltb, ne-eqb}
 use Rattle.ciphers.specs.declared.Cipher.{Cipher}
 use Rattle.ciphers.specs.declared.Cipher.the-variants.{N64T192, N128T256}
 use Rattle.ciphers.specs.Ciphers.{widthOf, counted}
-use Rattle.cells.specs.Cells.{Bytes}
+use Rattle.cells.specs.Cells.{Bytes, Block}
 use Rattle.forkskinny.specs.declared.Forked.{Forked}
 use Rattle.forkskinny.specs.declared.Unforked.{Unforked}
 use Rattle.forkskinny.specs.ForkSkinny.{half, input, other, otherOf}
-use Rattle.forkskinny.specs.Calls.{pick, wants, numberOf, forkRefused, forkBy, forkOf, unforkRefused, unforkBy, unforkOf}
-use Rattle.forkskinny.proofs.Forkcipher.{Block, input-half, other-half, half-input}
+use Rattle.forkskinny.specs.Calls.{wants, numberOf, forkRefused, forkBy, forkOf, unforkRefused, unforkBy, unforkOf}
+use Rattle.forkskinny.proofs.Forkcipher.{input-half, other-half, half-input}
 
 -- ---- the calls as the paper writes them, for a cipher c and a half h
 
@@ -67,19 +67,19 @@ module _ (c : Cipher) (key tweak : List ℕ) where
   -- ---- conditions 1 and 2: from a half the input, its part that counts, and the other half
 
   module _ (hk : Bytes key) (ht : Bytes tweak) (h : ℕ) (p : h < 2) where
-    pub condition-1 : (m : List ℕ) → Block m → unforkInput c key tweak (forkOne c key tweak m h) h ≡ counted (widthOf c) m
+    pub condition-1 : (m : List ℕ) → Block 16 m → unforkInput c key tweak (forkOne c key tweak m h) h ≡ counted (widthOf c) m
     condition-1 m b =
         ap (λ (x : List ℕ). unforkInput c key tweak x h) (one m h p) ∙ back (half c key tweak h m) h p
         ∙ input-half c key tweak hk ht h m b
 
-    pub condition-2 : (m : List ℕ) → Block m
+    pub condition-2 : (m : List ℕ) → Block 16 m
         → unforkOther c key tweak (forkOne c key tweak m h) h ≡ forkOne c key tweak m (otherOf h)
     condition-2 m b =
         ap (λ (x : List ℕ). unforkOther c key tweak x h) (one m h p) ∙ across (half c key tweak h m) h p
         ∙ other-half c key tweak hk ht h m b ∙ sym (one m (otherOf h) (other-lt h))
 
     -- condition 1 the other way round: every block is half h of some input, so that each half is a permutation
-    pub every-half : (x : List ℕ) → Block x → forkOne c key tweak (unforkInput c key tweak x h) h ≡ counted (widthOf c) x
+    pub every-half : (x : List ℕ) → Block 16 x → forkOne c key tweak (unforkInput c key tweak x h) h ≡ counted (widthOf c) x
     every-half x b =
         ap (λ (m : List ℕ). forkOne c key tweak m h) (back x h p) ∙ one (input c key tweak h x) h p
         ∙ half-input c key tweak hk ht h x b
@@ -107,7 +107,7 @@ module _ (c : Cipher) (key tweak : List ℕ) where
 
 -- ---- every other call is refused, for its cipher, its choice or its half; and any two results that a contract allows are equal
 
-pick-same : {A : Type 0} (t : Bool) (a : A) → pick t a a ≡ a
+pick-same : {A : Type 0} (t : Bool) (a : A) → cond t a a ≡ a
 pick-same true a = refl
 pick-same false a = refl
 

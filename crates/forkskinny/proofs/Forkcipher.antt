@@ -4,7 +4,7 @@ use mathlib.Core.Path.{_≡_, sym, ap, _∙_}
 use mathlib.Core.List.{List}
 use Prim.Native.Nat.{ℕ}
 use lib.ListN.{length, take}
-use Rattle.cells.specs.Cells.{Bytes}
+use Rattle.cells.specs.Cells.{Bytes, Block}
 use Rattle.cells.proofs.Laws.{LowCells}
 use Rattle.schedule.specs.declared.Tweakey.{Tweakey}
 use Rattle.ciphers.specs.declared.Cipher.{Cipher}
@@ -12,7 +12,6 @@ use Rattle.ciphers.specs.Ciphers.{widthOf, blockOf, counted, tk}
 use Rattle.ciphers.proofs.Laws.{tk-low, tk-front, load-front}
 use Rattle.forkskinny.specs.ForkSkinny.{sideOf, forked, branch, unbranch, unforked, half, input, otherOf, other}
 use Rattle.forkskinny.proofs.Ways.{unload-long, forked-counted, forked-cells, unforked-block, unforked-forked, forked-unforked, branch-block, unbranch-cells, unbranch-branch, branch-unbranch}
-pub use Rattle.forkskinny.proofs.Ways.{Block}
 
 -- for every key and tweak of bytes, every half h and every block
 module _ (c : Cipher) (key tweak : List ℕ) (hk : Bytes key) (ht : Bytes tweak) where
@@ -25,48 +24,48 @@ module _ (c : Cipher) (key tweak : List ℕ) (hk : Bytes key) (ht : Bytes tweak)
   -- ---- from half h of a block
 
   -- the input: the part of the block that counts
-  pub input-half : (h : ℕ) (m : List ℕ) → Block m → input c key tweak h (half c key tweak h m) ≡ counted (widthOf c) m
+  pub input-half : (h : ℕ) (m : List ℕ) → Block 16 m → input c key tweak h (half c key tweak h m) ≡ counted (widthOf c) m
   unfolding half input
   input-half h m p =
       ap (unforked c t) (unbranch-branch c t k (sideOf h) _ (forked-cells c t k m p)) ∙ unforked-forked c t k m p
 
   -- and the other half
-  pub other-half : (h : ℕ) (m : List ℕ) → Block m → other c key tweak h (half c key tweak h m) ≡ half c key tweak (otherOf h) m
+  pub other-half : (h : ℕ) (m : List ℕ) → Block 16 m → other c key tweak h (half c key tweak h m) ≡ half c key tweak (otherOf h) m
   unfolding half other
   other-half h m p = ap (branch c (sideOf (otherOf h)) t) (unbranch-branch c t k (sideOf h) _ (forked-cells c t k m p))
 
   -- ---- the other way round, from any block x
 
   -- it is half h of its input
-  pub half-input : (h : ℕ) (x : List ℕ) → Block x → half c key tweak h (input c key tweak h x) ≡ counted (widthOf c) x
+  pub half-input : (h : ℕ) (x : List ℕ) → Block 16 x → half c key tweak h (input c key tweak h x) ≡ counted (widthOf c) x
   unfolding half input
   half-input h x p =
       ap (branch c (sideOf h) t) (forked-unforked c t k _ (unbranch-cells c t k (sideOf h) x p))
       ∙ branch-unbranch c t k (sideOf h) x p
 
   -- and the other half is that of its input
-  pub other-input : (h : ℕ) (x : List ℕ) → Block x → other c key tweak h x ≡ half c key tweak (otherOf h) (input c key tweak h x)
+  pub other-input : (h : ℕ) (x : List ℕ) → Block 16 x → other c key tweak h x ≡ half c key tweak (otherOf h) (input c key tweak h x)
   unfolding half input other
   other-input h x p =
       ap (branch c (sideOf (otherOf h)) t) (sym (forked-unforked c t k _ (unbranch-cells c t k (sideOf h) x p)))
 
   -- ---- what comes out are blocks
 
-  pub half-block : (h : ℕ) (m : List ℕ) → Block m → Block (half c key tweak h m)
+  pub half-block : (h : ℕ) (m : List ℕ) → Block 16 m → Block 16 (half c key tweak h m)
   unfolding half
   half-block h m p = branch-block c t k (sideOf h) _ (forked-cells c t k m p)
 
-  pub input-block : (h : ℕ) (x : List ℕ) → Block x → Block (input c key tweak h x)
+  pub input-block : (h : ℕ) (x : List ℕ) → Block 16 x → Block 16 (input c key tweak h x)
   unfolding input
   input-block h x p = unforked-block c t k _ (unbranch-cells c t k (sideOf h) x p)
 
-  pub other-block : (h : ℕ) (x : List ℕ) → Block x → Block (other c key tweak h x)
+  pub other-block : (h : ℕ) (x : List ℕ) → Block 16 x → Block 16 (other c key tweak h x)
   unfolding other
   other-block h x p = branch-block c t k (sideOf (otherOf h)) _ (unbranch-cells c t k (sideOf h) x p)
 
   -- ---- only the part of a block that counts has a say in its halves
 
-  pub half-counts : (h : ℕ) (x y : List ℕ) → Block x → Block y → counted (widthOf c) x ≡ counted (widthOf c) y
+  pub half-counts : (h : ℕ) (x y : List ℕ) → Block 16 x → Block 16 y → counted (widthOf c) x ≡ counted (widthOf c) y
       → half c key tweak h x ≡ half c key tweak h y
   unfolding half
   half-counts h x y p q e =

@@ -1,7 +1,7 @@
 -- The rounds that the branches take are laid out and no more than the constants; what is so at 0 and at every other number.
 -- Assumes nothing.
 use mathlib.Core.Path.{_≡_, refl, sym}
-use mathlib.Core.Bool.{Bool, true, false, true≢false}
+use mathlib.Core.Bool.{Bool, true, false, true≢false, cond}
 use Prim.Native.Nat.{ℕ, zero, suc, _+_, _≤_}
 use native.Mathlib.Omega.{arith}
 use Rattle.ciphers.specs.declared.Cipher.{Cipher}
@@ -10,7 +10,6 @@ use Rattle.ciphers.proofs.Laws.{fit}
 use Rattle.forkskinny.specs.declared.Branch.{Branch}
 use Rattle.forkskinny.specs.declared.Branch.the-variants.{Near, Far}
 use Rattle.forkskinny.specs.ForkSkinny.{startOf, sideOf}
-use Rattle.forkskinny.specs.Calls.{pick}
 use Rattle.forkskinny.specs.Reach.{isFar, farIf, takesFar, reachOf}
 
 -- a function's value past 0
@@ -39,7 +38,7 @@ module _ (c : Cipher) where
   reach-branch Far true p = omega arith
   reach-branch Far false p = absurd (true≢false (sym (p refl)))
 
-either : (t : Bool) → pick t true true ≡ true
+either : (t : Bool) → cond t true true ≡ true
 either true = refl
 either false = refl
 

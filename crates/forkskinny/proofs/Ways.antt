@@ -5,7 +5,7 @@ use mathlib.Core.List.{List}
 use Prim.Native.Nat.{ℕ, _*_, _/_, _%_}
 use native.Mathlib.Omega.{arith}
 use lib.ListN.{length}
-use Rattle.cells.specs.Cells.{Width, Nibble, Byte, Words, Bytes}
+use Rattle.cells.specs.Cells.{Width, Nibble, Byte, Words, Bytes, Block}
 use Rattle.cells.proofs.Below.{tab}
 use Rattle.cells.proofs.Laws.{LowCells}
 use Rattle.schedule.specs.declared.Tweakey.{Tweakey}
@@ -21,11 +21,6 @@ use Rattle.ciphers.proofs.Laws.{append-low, load-cells, load-unload, unload-loa
 use Rattle.forkskinny.specs.declared.Branch.{Branch}
 use Rattle.forkskinny.specs.declared.Branch.the-variants.{Near, Far}
 use Rattle.forkskinny.specs.ForkSkinny.{startOf, enter, forked, branch, unbranch, unforked}
-
--- sixteen bytes
-pub record Block (b : List ℕ) : Type 0 where
-  pub long : length b ≡ 16
-  pub bytes : Bytes b
 
 -- ---- cells make a block
 
@@ -44,7 +39,7 @@ unfolding unload
 unload-long Nibble s = refl
 unload-long Byte s = refl
 
-unload-block : (w : Width) (s : State) → Cells w s → Block (unload w s)
+unload-block : (w : Width) (s : State) → Cells w s → Block 16 (unload w s)
 unload-block w s h = record { long = unload-long w s; bytes = unload-bytes w s h }
 
 -- ---- the branch constant, on the branch that has it
@@ -67,22 +62,22 @@ module _ (c : Cipher) where
   -- ---- the rounds before the fork
 
   -- what doesn't count of a block isn't read
-  pub forked-counted : (t : Tweakey) (m : List ℕ) → Block m → forked c t (counted w m) ≡ forked c t m
+  pub forked-counted : (t : Tweakey) (m : List ℕ) → Block 16 m → forked c t (counted w m) ≡ forked c t m
   unfolding forked
   forked-counted t m h =
       ap (rounds w n (initOf c) t)
       (ap (load w) (sym (unload-load w m (h .long) (h .bytes))) ∙ load-unload w (load w m) (load-cells w m (h .bytes)))
 
   module _ (t : Tweakey) (k : LowCells w (t .cells)) where
-    pub forked-cells : (m : List ℕ) → Block m → Cells w (forked c t m)
+    pub forked-cells : (m : List ℕ) → Block 16 m → Cells w (forked c t m)
     unfolding forked
     forked-cells m h = rounds-cells w n (initOf c) t _ k (load-cells w m (h .bytes))
 
-    pub unforked-block : (s : State) → Cells w s → Block (unforked c t s)
+    pub unforked-block : (s : State) → Cells w s → Block 16 (unforked c t s)
     unfolding unforked
     unforked-block s h = unload-block w _ (unrounds-cells w n (initOf c) t s k h)
 
-    pub unforked-forked : (m : List ℕ) → Block m → unforked c t (forked c t m) ≡ counted w m
+    pub unforked-forked : (m : List ℕ) → Block 16 m → unforked c t (forked c t m) ≡ counted w m
     unfolding forked unforked
     unforked-forked m h =
         ap (unload w) (unrounds-rounds w n (initOf c) t _ k (load-cells w m (h .bytes))) ∙ unload-load w m (h .long) (h .bytes)
@@ -107,14 +102,14 @@ module _ (c : Cipher) where
       end-cells : (s : State) → Cells w s → Cells w (rounds w n (branchOf c) u (enter w b s))
       end-cells s h = rounds-cells w n (branchOf c) u _ low (enter-cells w b s h)
 
-      start-cells : (x : List ℕ) → Block x → Cells w (unrounds w n (branchOf c) u (load w x))
+      start-cells : (x : List ℕ) → Block 16 x → Cells w (unrounds w n (branchOf c) u (load w x))
       start-cells x h = unrounds-cells w n (branchOf c) u _ low (load-cells w x (h .bytes))
 
-      pub branch-block : (s : State) → Cells w s → Block (branch c b t s)
+      pub branch-block : (s : State) → Cells w s → Block 16 (branch c b t s)
       unfolding branch
       branch-block s h = unload-block w _ (end-cells s h)
 
-      pub unbranch-cells : (x : List ℕ) → Block x → Cells w (unbranch c b t x)
+      pub unbranch-cells : (x : List ℕ) → Block 16 x → Cells w (unbranch c b t x)
       unfolding unbranch
       unbranch-cells x h = enter-cells w b _ (start-cells x h)
 
@@ -125,7 +120,7 @@ module _ (c : Cipher) where
           ∙ ap (enter w b) (unrounds-rounds w n (branchOf c) u _ low (enter-cells w b s h))
           ∙ enter-enter w b s h
 
-      pub branch-unbranch : (x : List ℕ) → Block x → branch c b t (unbranch c b t x) ≡ counted w x
+      pub branch-unbranch : (x : List ℕ) → Block 16 x → branch c b t (unbranch c b t x) ≡ counted w x
       unfolding branch unbranch
       branch-unbranch x h =
           ap (λ (y : State). unload w (rounds w n (branchOf c) u y)) (enter-enter w b _ (start-cells x h))

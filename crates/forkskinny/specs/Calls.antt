@@ -2,7 +2,7 @@
 -- 2 is 128-256. Wanted: 0 the first result, 1 the second, 2 both; forward these are half 0 and half 1, back the input and the
 -- other half. Assumes nothing.
 use Prim.Native.Nat.{ℕ}
-use mathlib.Core.Bool.{Bool, true, false}
+use mathlib.Core.Bool.{Bool, true, cond}
 use mathlib.Core.List.{List}
 use lib.Dec.{eqb, ltb}
 use lib.ListN.{replicate}
@@ -15,17 +15,13 @@ use Rattle.forkskinny.specs.ForkSkinny.{half, input, other}
 abbrev pub zeros : List ℕ
 zeros = replicate 16 0
 
-abbrev pub pick : {A : Type 0} → Bool → A → A → A
-pick true a b = a
-pick false a b = b
-
 -- a block that wasn't asked for comes back as zeros
 abbrev pub given : Bool → List ℕ → List ℕ
-given asked b = pick asked b zeros
+given asked b = cond asked b zeros
 
 -- result k is wanted: it alone, or both
 unfoldable pub wants : ℕ → ℕ → Bool
-wants k want = pick (eqb want k) true (eqb want 2)
+wants k want = cond (eqb want k) true (eqb want 2)
 
 -- the number of a cipher
 abbrev pub numberOf : Cipher → ℕ
@@ -34,7 +30,7 @@ numberOf N128T256 = 2
 
 -- the answer under the cipher that a number names, or the refusal
 abbrev pub underCipher : {A : Type 0} → ℕ → (Cipher → A) → A → A
-underCipher cipher f refused = pick (eqb cipher 1) (f N64T192) (pick (eqb cipher 2) (f N128T256) refused)
+underCipher cipher f refused = cond (eqb cipher 1) (f N64T192) (cond (eqb cipher 2) (f N128T256) refused)
 
 -- ---- forward
 
@@ -50,7 +46,7 @@ forkBy c key tweak block want = record {
 
 unfoldable pub forkOf : ℕ → List ℕ → List ℕ → List ℕ → ℕ → Forked
 forkOf cipher key tweak block want =
-    pick (ltb 2 want) forkRefused (underCipher cipher (λ c. forkBy c key tweak block want) forkRefused)
+    cond (ltb 2 want) forkRefused (underCipher cipher (λ c. forkBy c key tweak block want) forkRefused)
 
 -- ---- back
 
@@ -66,5 +62,5 @@ unforkBy c key tweak block from want = record {
 
 unfoldable pub unforkOf : ℕ → List ℕ → List ℕ → List ℕ → ℕ → ℕ → Unforked
 unforkOf cipher key tweak block from want =
-    pick (ltb 1 from) unforkRefused
-    (pick (ltb 2 want) unforkRefused (underCipher cipher (λ c. unforkBy c key tweak block from want) unforkRefused))
+    cond (ltb 1 from) unforkRefused
+    (cond (ltb 2 want) unforkRefused (underCipher cipher (λ c. unforkBy c key tweak block from want) unforkRefused))

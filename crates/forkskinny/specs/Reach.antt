@@ -1,12 +1,11 @@
 -- How far a call lays the round keys out: no further than the branches that it takes. Assumes nothing.
 use Prim.Native.Nat.{ℕ, _+_}
-use mathlib.Core.Bool.{Bool, true, false}
+use mathlib.Core.Bool.{Bool, true, false, cond}
 use Rattle.ciphers.specs.declared.Cipher.{Cipher}
 use Rattle.ciphers.specs.Ciphers.{branchOf}
 use Rattle.forkskinny.specs.declared.Branch.{Branch}
 use Rattle.forkskinny.specs.declared.Branch.the-variants.{Near, Far}
 use Rattle.forkskinny.specs.ForkSkinny.{sideOf, startOf}
-use Rattle.forkskinny.specs.Calls.{pick}
 
 abbrev pub isFar : Branch → Bool
 isFar Near = false
@@ -14,11 +13,11 @@ isFar Far = true
 
 -- half h is asked for, and the far branch gives it
 abbrev pub farIf : Bool → ℕ → Bool
-farIf asked h = pick asked (isFar (sideOf h)) false
+farIf asked h = cond asked (isFar (sideOf h)) false
 
 -- the far branch is taken for half h or for half k
 abbrev pub takesFar : Bool → ℕ → Bool → ℕ → Bool
-takesFar a h b k = pick (farIf a h) true (farIf b k)
+takesFar a h b k = cond (farIf a h) true (farIf b k)
 
 -- the rounds to the end of the far branch, or of the near one
 abbrev pub reachOf : Cipher → Bool → ℕ

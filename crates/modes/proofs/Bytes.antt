@@ -2,16 +2,16 @@
 use mathlib.Core.Path.{_≡_, refl, sym, ap, ap₂, _∙_}
 use Prim.Native.Nat.{ℕ, zero, suc, _+_, _-_, _≤_, _<_}
 use native.Mathlib.Omega.{arith}
-use mathlib.Core.Bool.{Bool, true, false, false≢true}
+use mathlib.Core.Bool.{Bool, true, false, false≢true, cond}
 use mathlib.Core.List.{List, [], _∷_, _++_}
 use lib.ListN.{length, getD, take, drop, replicate, length-append, length-drop, length-replicate, take-append-drop}
 use lib.Seq.{length-take-le, take-all, take-append-le, take-append-seam, drop-append-seam, take-append-add}
 use lib.Dec.{T, eqb, eqb→eq, eqb-refl, lit<}
 use lib.Bits.{bitXor, xor-comm}
-use Rattle.cells.specs.Cells.{Bytes, Byte}
+use Rattle.cells.specs.Cells.{Bytes, Byte, Block}
 use Rattle.cells.proofs.Laws.{xor-low}
 use Rattle.cells.proofs.Xor.{xor-last}
-use Rattle.modes.specs.Blocks.{Block, pick, ten, pad, _⊕_, same}
+use Rattle.modes.specs.Blocks.{ten, pad, _⊕_, same}
 
 -- ---- bytes
 
@@ -129,11 +129,11 @@ pad-full n x h = pad-long n x (omega arith) ∙ take-all n x (omega arith)
 
 -- ---- the test of two strings
 
-pick-yes : (b c : Bool) → T b → pick b c false ≡ c
+pick-yes : (b c : Bool) → T b → cond b c false ≡ c
 pick-yes true c t = refl
 pick-yes false c t = absurd t
 
-pick-both : (b c : Bool) → pick b c false ≡ true → T b × (c ≡ true)
+pick-both : (b c : Bool) → cond b c false ≡ true → T b × (c ≡ true)
 pick-both true c e = (tt, e)
 pick-both false c e = absurd (false≢true e)
 

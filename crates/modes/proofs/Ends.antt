@@ -7,27 +7,27 @@ use mathlib.Core.Bool.{Bool, true, false, _&&_, false≢true}
 use mathlib.Core.List.{List}
 use lib.ListN.{length, take, drop, take-append-drop}
 use lib.Seq.{length-take-le, take-at, drop-at}
-use Rattle.cells.specs.Cells.{Bytes}
-use Rattle.modes.specs.Blocks.{Block, full, ten, pad, same}
-use Rattle.modes.specs.Mode.{Mode, Opened, join, blockOf, tagOf, judge, sealLast, openLast}
+use Rattle.cells.specs.Cells.{Bytes, Block}
+use Rattle.modes.specs.Blocks.{full, ten, pad, same}
+use Rattle.modes.specs.Mode.{Mode, Opened, join, endBlock, endTag, judge, sealLast, openLast}
 use Rattle.modes.specs.Lawful.{Lawful}
 use Rattle.modes.proofs.Bytes.{block-take, block-drop, block-size, block-append}
 use Rattle.modes.proofs.Bytes.{pad-block, take-pad, pad-rest, pad-judged, same-refl, same-eq}
 
 -- ---- a block a and bytes t, in one order or the other
 
-block-join : (o : Bool) (n r : ℕ) (a t : List ℕ) → length a ≡ n → length t ≡ r → blockOf o n r (join o a t) ≡ a
-unfolding join blockOf
+block-join : (o : Bool) (n r : ℕ) (a t : List ℕ) → length a ≡ n → length t ≡ r → endBlock o n r (join o a t) ≡ a
+unfolding join endBlock
 block-join true n r a t ha ht = take-at a t n ha
 block-join false n r a t ha ht = drop-at t a r ht
 
-tag-join : (o : Bool) (n r : ℕ) (a t : List ℕ) → length a ≡ n → length t ≡ r → tagOf o n r (join o a t) ≡ t
-unfolding join tagOf
+tag-join : (o : Bool) (n r : ℕ) (a t : List ℕ) → length a ≡ n → length t ≡ r → endTag o n r (join o a t) ≡ t
+unfolding join endTag
 tag-join true n r a t ha ht = drop-at a t n ha
 tag-join false n r a t ha ht = take-at t a r ht
 
-join-split : (o : Bool) (n r : ℕ) (c : List ℕ) → join o (blockOf o n r c) (tagOf o n r c) ≡ c
-unfolding join blockOf tagOf
+join-split : (o : Bool) (n r : ℕ) (c : List ℕ) → join o (endBlock o n r c) (endTag o n r c) ≡ c
+unfolding join endBlock endTag
 join-split true n r c = take-append-drop n c
 join-split false n r c = take-append-drop r c
 
@@ -36,8 +36,8 @@ unfolding join
 join-block true n r a t ha ht = block-size (block-append ha ht) (omega arith)
 join-block false n r a t ha ht = block-append ht ha
 
-block-block : (o : Bool) (n r : ℕ) (c : List ℕ) → Block (r + n) c → Block n (blockOf o n r c)
-unfolding blockOf
+block-block : (o : Bool) (n r : ℕ) (c : List ℕ) → Block (r + n) c → Block n (endBlock o n r c)
+unfolding endBlock
 block-block true n r c h = block-take n c (omega (arith, h .long)) (h .bytes)
 block-block false n r c h = block-drop r n c (h .long) (h .bytes)
 
@@ -59,8 +59,8 @@ module _ {St : Type 0} (n : ℕ) (M : Mode St) (Ok : St → Type 0) (L : Lawful 
   -- opening an end whose last block had r bytes
   openAt : St → ℕ → List ℕ → Opened
   openAt s r c =
-      let x = blockOf (M .blockFirst) n r c in
-      judge n r (M .unfin (full n r) s x) (M .untag (full n r) s x) (tagOf (M .blockFirst) n r c)
+      let x = endBlock (M .blockFirst) n r c in
+      judge n r (M .unfin (full n r) s x) (M .untag (full n r) s x) (endTag (M .blockFirst) n r c)
 
   open-at : (s : St) (r : ℕ) (c : List ℕ) → length c ≡ r + n → openLast n M s c ≡ openAt s r c
   unfolding openLast openAt
@@ -72,11 +72,11 @@ module _ {St : Type 0} (n : ℕ) (M : Mode St) (Ok : St → Type 0) (L : Lawful 
   seal-open-at s c r ok h k e =
       let f : Bool = full n r in
       let o : Bool = M .blockFirst in
-      let a : List ℕ = blockOf o n r c in
+      let a : List ℕ = endBlock o n r c in
       let ab : Block n a = block-block o n r c h in
       let p : List ℕ = M .unfin f s a in
       let pb : Block n p = L .undo-fin f s ok .fro a ab in
-      let t : List ℕ = tagOf o n r c in
+      let t : List ℕ = endTag o n r c in
       let y : (same (take r (M .untag f s a)) t ≡ true) × (same (drop r p) (take (n - r) (ten n)) ≡ true) = both _ _ e in
       let et : take r (M .tag f s p) ≡ t = ap (take r) (sym (L .tag-is f s a ok ab)) ∙ same-eq _ _ (y .0) in
       let ep : pad n (take r p) ≡ p = pad-judged n r p (pb .long) k (same-eq _ _ (y .1)) in

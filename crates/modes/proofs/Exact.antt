@@ -10,8 +10,8 @@ use mathlib.Core.Bool.{Bool, true, false, false≢true}
 use mathlib.Core.List.{List, [], _∷_, _++_}
 use lib.ListN.{length, take, drop, take-append-drop}
 use lib.Seq.{take-at, drop-at}
-use Rattle.cells.specs.Cells.{Bytes}
-use Rattle.modes.specs.Blocks.{Block, whole, full, pad, same}
+use Rattle.cells.specs.Cells.{Bytes, Block}
+use Rattle.modes.specs.Blocks.{whole, full, pad, same}
 use Rattle.modes.specs.Mode.{Mode, Opened, before, walkFrom, walk, headed}
 use Rattle.modes.specs.Mode.{sealFrom, sealRest, sealRun, openFrom, openRest, openRun}
 use Rattle.modes.specs.Lawful.{Lawful}

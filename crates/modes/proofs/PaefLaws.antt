@@ -5,7 +5,8 @@ use native.Mathlib.Nat.{mod-lt}
 use native.Mathlib.Omega.{arith}
 use mathlib.Core.List.{List}
 use lib.Dec.{lit<}
-use Rattle.modes.specs.Blocks.{Block, _⊕_}
+use Rattle.cells.specs.Cells.{Block}
+use Rattle.modes.specs.Blocks.{_⊕_}
 use Rattle.modes.specs.Forkcipher.{Fork, ForkLaws}
 use Rattle.modes.specs.Lawful.{Lawful}
 use Rattle.modes.specs.Paef.{Sum, be16, paefTweak, paefHead, paefBody, sumTweak, sumHalf, sumInput, sumOther, headSum, paef}

@@ -6,7 +6,8 @@ use mathlib.Core.Bool.{Bool, true, false}
 use mathlib.Core.List.{List, [], _∷_}
 use lib.ListN.{length}
 use lib.Dec.{lit<}
-use Rattle.modes.specs.Blocks.{Block, _⊕_}
+use Rattle.cells.specs.Cells.{Block}
+use Rattle.modes.specs.Blocks.{_⊕_}
 use Rattle.modes.specs.Forkcipher.{Fork, ForkLaws, Undo}
 use Rattle.modes.specs.Lawful.{Lawful}
 use Rattle.modes.specs.Saef.{Mask, saefTweak, saefHead, saefBody, maskTweak, maskHalf, maskInput, maskOther, saef}

@@ -2,7 +2,8 @@
 use mathlib.Core.Path.{sym, ap, _∙_}
 use Prim.Native.Nat.{ℕ}
 use mathlib.Core.List.{List}
-use Rattle.modes.specs.Blocks.{Block, _⊕_}
+use Rattle.cells.specs.Cells.{Block}
+use Rattle.modes.specs.Blocks.{_⊕_}
 use Rattle.modes.specs.Forkcipher.{Undo}
 use Rattle.modes.proofs.Bytes.{xor-block, xor-undo}
 

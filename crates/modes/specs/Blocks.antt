@@ -1,22 +1,11 @@
 -- Blocks of n bytes: how a string is cut into them, padding, and their exclusive or (001, the Forkcipher paper, section 2).
 -- Assumes nothing.
-use mathlib.Core.Path.{_≡_}
 use Prim.Native.Nat.{ℕ, _-_, _/_}
-use mathlib.Core.Bool.{Bool, true, false}
+use mathlib.Core.Bool.{Bool, true, false, cond}
 use mathlib.Core.List.{List, [], _∷_, _++_}
 use lib.Bits.{bitXor}
 use lib.Dec.{eqb, leb}
-use lib.ListN.{length, take, replicate}
-use Rattle.cells.specs.Cells.{Bytes}
-
--- n bytes
-pub record Block (n : ℕ) (b : List ℕ) : Type 0 where
-  pub long : length b ≡ n
-  pub bytes : Bytes b
-
-abbrev pub pick : {A : Type 0} → Bool → A → A → A
-pick true a b = a
-pick false a b = b
+use lib.ListN.{take, replicate}
 
 -- X_1 .. X_x, X_*: how many blocks stand before the last one, of a string of l bytes. The last one has 1 to n bytes; a string of
 -- whole blocks ends in a full one. (The paper prints a floor where a short last block needs the ceiling.)
@@ -51,4 +40,4 @@ unfoldable pub same : List ℕ → List ℕ → Bool
 same [] [] = true
 same [] (y ∷ ys) = false
 same (x ∷ xs) [] = false
-same (x ∷ xs) (y ∷ ys) = pick (eqb x y) (same xs ys) false
+same (x ∷ xs) (y ∷ ys) = cond (eqb x y) (same xs ys) false

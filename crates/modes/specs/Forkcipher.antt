@@ -1,8 +1,8 @@
 -- A forkcipher under one key (001, 3.1), and the laws that a mode asks of it. Assumes nothing.
+use Rattle.cells.specs.Cells.{Block}
 use mathlib.Core.Path.{_≡_}
 use Prim.Native.Nat.{ℕ}
 use mathlib.Core.List.{List}
-use Rattle.modes.specs.Blocks.{Block}
 
 -- half h of a block under a tweak; from half h the input block, and the other half
 pub record Fork : Type 0 where

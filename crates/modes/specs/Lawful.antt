@@ -4,7 +4,7 @@ use mathlib.Core.Path.{_≡_}
 use Prim.Native.Nat.{ℕ, _<_}
 use mathlib.Core.Bool.{Bool}
 use mathlib.Core.List.{List}
-use Rattle.modes.specs.Blocks.{Block}
+use Rattle.cells.specs.Cells.{Block}
 use Rattle.modes.specs.Forkcipher.{Undo}
 use Rattle.modes.specs.Mode.{Mode}
 

@@ -1,12 +1,12 @@
--- What the modes have in common (001, figures 5 and 8; the modes of 000 fit too). A header is walked block by block. Each block
+-- What the modes have in common (001, figures 5 and 8, whose lines are cited in this order; the modes of 000 fit too). A header is walked block by block. Each block
 -- of a body but the last is sealed to a block; the last one, padded, to a block and as many leading bytes of a second block as it
 -- had bytes itself. An empty body is sealed to one block. Assumes nothing.
 use Prim.Native.Nat.{ℕ, zero, suc, _-_}
-use mathlib.Core.Bool.{Bool, true, false, not, _&&_}
+use mathlib.Core.Bool.{Bool, true, false, not, _&&_, cond}
 use mathlib.Core.List.{List, [], _++_}
 use lib.Dec.{eqb}
 use lib.ListN.{length, take, drop}
-use Rattle.modes.specs.Blocks.{pick, whole, full, none, ten, pad, same}
+use Rattle.modes.specs.Blocks.{whole, full, none, ten, pad, same}
 
 -- A mode under one key and nonce. St is what it carries from block to block; every block has n bytes. noM says that the body is
 -- empty, and `full` of a last block that it was not padded.
@@ -31,19 +31,19 @@ pub record Mode (St : Type 0) : Type 0 where
   -- does the last block come before those leading bytes (PAEF, SAEF), or behind them
   pub blockFirst : Bool
 
--- ---- the end of a run: a block of n bytes, and r leading bytes of a second
+-- ---- the end of a run: a block of n bytes, and r leading bytes of a second (section 2, csplit; enc 38 and 34)
 
 unfoldable pub join : Bool → List ℕ → List ℕ → List ℕ
 join true block tag = block ++ tag
 join false block tag = tag ++ block
 
-unfoldable pub blockOf : Bool → ℕ → ℕ → List ℕ → List ℕ
-blockOf true n r c = take n c
-blockOf false n r c = drop r c
+unfoldable pub endBlock : Bool → ℕ → ℕ → List ℕ → List ℕ
+endBlock true n r c = take n c
+endBlock false n r c = drop r c
 
-unfoldable pub tagOf : Bool → ℕ → ℕ → List ℕ → List ℕ
-tagOf true n r c = drop n c
-tagOf false n r c = take r c
+unfoldable pub endTag : Bool → ℕ → ℕ → List ℕ → List ℕ
+endTag true n r c = drop n c
+endTag false n r c = take r c
 
 -- what a run opens to: a body, and whether the run is authentic; where it is not, nobody is told that body
 pub record Opened : Type 0 where
@@ -54,7 +54,7 @@ pub record Opened : Type 0 where
 abbrev pub before : List ℕ → Opened → Opened
 before p o = record { authentic = o .authentic; body = p ++ o .body }
 
--- p is the last block as it was padded, r its bytes: T' = T, and P = 10..0 (001, figure 5, dec 39 to 42)
+-- p is the last block as it was padded, r its bytes: T' = T, and P = 10..0 (dec 39 to 42, and 35 to 38)
 unfoldable pub judge : (n r : ℕ) → (p second tag : List ℕ) → Opened
 judge n r p second tag = record {
   authentic = same (take r second) tag && same (drop r p) (take (n - r) (ten n));
@@ -62,7 +62,7 @@ judge n r p second tag = record {
 }
 
 module _ {St : Type 0} (n : ℕ) (M : Mode St) where
-  -- ---- the header: m blocks, and then the last one
+  -- ---- the header: m blocks, and then the last one (enc 5 to 17, and 7 to 19)
 
   unfoldable pub walkFrom : ℕ → Bool → St → List ℕ → St
   walkFrom zero noM s a = M .headLast noM (full n (length a)) s (pad n a)
@@ -71,11 +71,12 @@ module _ {St : Type 0} (n : ℕ) (M : Mode St) where
   unfoldable pub walk : Bool → St → List ℕ → St
   walk noM s a = walkFrom (whole n (length a)) noM s a
 
-  -- "Do nothing if A = ε, M ≠ ε"; where both are empty, one padded empty block
+  -- "Do nothing if A = ε, M ≠ ε" (enc 18, and 20); where both are empty, one padded empty block (enc 14, and 16)
   unfoldable pub headed : Bool → List ℕ → St
-  headed noM a = pick (not noM && none (length a)) (M .start) (walk noM (M .start) a)
+  headed noM a = cond (not noM && none (length a)) (M .start) (walk noM (M .start) a)
 
-  -- ---- sealing: the last block, m blocks and the last, what is left of a body, a whole body
+  -- ---- sealing: the last block (enc 27 to 38, and 26 to 34), m blocks and the last (enc 19 to 26, and 21 to 25), what is left of a
+  -- body, a whole body
 
   unfoldable pub sealLast : St → List ℕ → List ℕ
   sealLast s x =
@@ -93,15 +94,15 @@ module _ {St : Type 0} (n : ℕ) (M : Mode St) where
   sealRun header body =
       let noM = none (length body) in
       let s = headed noM header in
-      pick noM (M .alone s) (sealRest s body)
+      cond noM (M .alone s) (sealRest s body)
 
-  -- ---- opening, in the same order; r is |T|, the bytes of the last block
+  -- ---- opening, in the same order (dec 27 to 42, and 26 to 38; dec 19 to 26, and 21 to 25); r is |T|, the bytes of the last block
 
   unfoldable pub openLast : St → List ℕ → Opened
   openLast s c =
       let r = length c - n in
-      let x = blockOf (M .blockFirst) n r c in
-      judge n r (M .unfin (full n r) s x) (M .untag (full n r) s x) (tagOf (M .blockFirst) n r c)
+      let x = endBlock (M .blockFirst) n r c in
+      judge n r (M .unfin (full n r) s x) (M .untag (full n r) s x) (endTag (M .blockFirst) n r c)
 
   unfoldable pub openFrom : ℕ → St → List ℕ → Opened
   openFrom zero s c = openLast s c
@@ -110,9 +111,9 @@ module _ {St : Type 0} (n : ℕ) (M : Mode St) where
   unfoldable pub openRest : St → List ℕ → Opened
   openRest s c = openFrom (whole n (length c - n)) s c
 
-  -- a run of one block has an empty body; a shorter one never comes here
+  -- a run of one block has an empty body (dec 34 and 35, and 31 and 32); a shorter one never comes here
   unfoldable pub openRun : List ℕ → List ℕ → Opened
   openRun header c =
       let noM = eqb (length c) n in
       let s = headed noM header in
-      pick noM (record { authentic = same c (M .alone s); body = [] }) (openRest s c)
+      cond noM (record { authentic = same c (M .alone s); body = [] }) (openRest s c)

@@ -1,6 +1,6 @@
 -- What the calls answer under a scheme, from what their callees answered: refused by a check, done, or forged. Assumes nothing.
 use mathlib.Core.Path.{_≡_, sym, ap, _∙_}
-use mathlib.Core.Bool.{Bool, true, false}
+use mathlib.Core.Bool.{Bool, true, false, cond}
 use mathlib.Core.List.{List, _++_, append-nil}
 use Prim.Native.Nat.{ℕ, _+_, _-_}
 use native.Mathlib.Omega.{arith}
@@ -8,7 +8,6 @@ use lib.Dec.{ltb}
 use lib.ListN.{length, take, drop, replicate}
 use lib.Seq.{take-all, drop-at}
 use Rattle.ciphers.specs.Ciphers.{blockOf}
-use Rattle.modes.specs.Blocks.{pick}
 use Rattle.modes.specs.Mode.{Opened, sealRun, openRun}
 use Rattle.steps.specs.Modes.{modeOf}
 use Rattle.sealing.specs.declared.schemes.Scheme.{Scheme}
@@ -80,11 +79,11 @@ module _ (s : Scheme) (key nonce header : List ℕ) (N : ℕ) (size : N ≡ bloc
 
       -- the answer by r
       by : (b : Bool) (t : Told) → r ≡ b
-          → t ≡ pick b (done l (opened s key nonce header run .body) room) (forged l room) → t ≡ openUnder s key nonce header run room
+          → t ≡ cond b (done l (opened s key nonce header run .body) room) (forged l room) → t ≡ openUnder s key nonce header run room
       unfolding openUnder
       by b t q f =
           f
-          ∙ ap (λ (b : Bool). pick b (done l (opened s key nonce header run .body) room) (forged l room))
+          ∙ ap (λ (b : Bool). cond b (done l (opened s key nonce header run .body) room) (forged l room))
           (sym q ∙ said ∙ ap (λ (o : Opened). o .authentic) opens)
           ∙ told-passed number _ (judged (opened s key nonce header run) l room) room open-check z
 

@@ -4,15 +4,16 @@
 use mathlib.Core.Path.{_≡_, refl, sym, _∙_}
 use Prim.Native.Nat.{ℕ, _+_, _-_, _≤_, _<_}
 use mathlib.Core.Logic.{_↔_}
+use mathlib.Core.Bool.{false}
 use mathlib.Core.List.{List}
+use lib.Dec.{ltb}
 use lib.ListN.{length}
-use Rattle.cells.specs.Cells.{Bytes}
+use Rattle.cells.specs.Cells.{Bytes, Block}
 use Rattle.ciphers.specs.declared.Cipher.{Cipher}
 use Rattle.ciphers.specs.declared.Cipher.the-variants.{N64T192, N128T256}
 use Rattle.ciphers.specs.Ciphers.{widthOf, blockOf, counted}
 use Rattle.forkskinny.specs.ForkSkinny.{otherOf}
 use Rattle.forkskinny.proofs.Conditions.{forkOne, unforkInput, unforkOther, condition-1, condition-2}
-use Rattle.forkskinny.proofs.Forkcipher as F
 use Rattle.modes.specs.Mode.{sealRun, openRun}
 use Rattle.modes.specs.Paef.{paef}
 use Rattle.modes.specs.Saef.{saef}
@@ -21,12 +22,14 @@ use Rattle.sealing.specs.declared.Answer.{Answer}
 use Rattle.sealing.specs.declared.schemes.Scheme.{Scheme}
 use Rattle.sealing.specs.declared.schemes.Named.the-variants.{Known}
 use Rattle.sealing.specs.Schemes.{scheme1, scheme2, scheme3, schemeOf}
-use Rattle.sealing.specs.Calls.{Told, told, refused, done, forged, judged, sealOf, openOf}
+use Rattle.sealing.specs.Calls.{Told, told, refused, done, forged, judged, sealUnder, openUnder, sealOf, openOf}
+use Rattle.sealing.specs.Checks.{checkOf}
 use Rattle.sealing.specs.Demands.{Admitted, SealsTo}
 use Rattle.sealing.specs.View.{viewOf}
 use Rattle.sealing.proofs.Admitted.{seal-admitted, open-admitted}
 use Rattle.sealing.proofs.Exactly.{opens-iff, one-body, body-returned, none-forged}
-use Rattle.sealing.proofs.Table.{open-known, none-named}
+use Rattle.sealing.proofs.Passed.{not-passed}
+use Rattle.sealing.proofs.Table.{seal-known, open-known, none-named}
 use Rattle.sealing.proofs.Ways.{seal-ways, open-ways, forged-named, forged-under, no-length, told-same}
 
 -- ---- demand 1: refusals come in one fixed order (specs/Checks.antt), each with its number, length zero and fixed contents of the
@@ -61,6 +64,22 @@ pub unknown : (scheme : ℕ) (key nonce header input room : List ℕ) → (schem
     → (sealOf scheme key nonce header input room ≡ refused 1 room) × (openOf scheme key nonce header input room ≡ refused 1 room)
 unfolding sealOf openOf
 unknown scheme key nonce header input room a b c = (rw (none-named scheme a b c), rw (none-named scheme a b c))
+
+-- under a scheme, the first check that applies answers with its number, before anything else is looked at
+pub seal-order : (scheme : ℕ) (s : Scheme) (key nonce header body room : List ℕ) → schemeOf scheme ≡ Known s
+    → let k = checkOf s (length key) (length nonce) (length header) (length body) false (blockOf (s .cipher)) (length room) in
+    (k ≡ 0 → ⊥) → sealOf scheme key nonce header body room ≡ refused k room
+unfolding sealUnder
+seal-order scheme s key nonce header body room known h =
+    seal-known scheme s known key nonce header body room ∙ not-passed _ _ room h
+
+pub open-order : (scheme : ℕ) (s : Scheme) (key nonce header run room : List ℕ) → schemeOf scheme ≡ Known s
+    → let n = blockOf (s .cipher) in
+    let k = checkOf s (length key) (length nonce) (length header) (length run - n) (ltb (length run) n) 0 (length room) in
+    (k ≡ 0 → ⊥) → openOf scheme key nonce header run room ≡ refused k room
+unfolding openUnder
+open-order scheme s key nonce header run room known h =
+    open-known scheme s known key nonce header run room ∙ not-passed _ _ room h
 
 -- any two results that a contract allows are one
 pub same-seal : (scheme : ℕ) (key nonce header body room : List ℕ) (a b : Answer) (r q : List ℕ)
@@ -111,7 +130,7 @@ module _ (key nonce header run room : List ℕ) where
   open-3 ok l b r = open-admitted 3 scheme3 key nonce header ok run room l b r
 
 -- a block can be taken back from either half h, and the other half comes out again
-module _ (c : Cipher) (key tweak m : List ℕ) (hk : Bytes key) (ht : Bytes tweak) (hm : F.Block m) (h : ℕ) (two : h < 2) where
+module _ (c : Cipher) (key tweak m : List ℕ) (hk : Bytes key) (ht : Bytes tweak) (hm : Block 16 m) (h : ℕ) (two : h < 2) where
   pub half-back : unforkInput c key tweak (forkOne c key tweak m h) h ≡ counted (widthOf c) m
   half-back = condition-1 c key tweak hk ht h two m hm
 

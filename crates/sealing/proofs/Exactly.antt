@@ -4,14 +4,13 @@ use mathlib.Core.Path.{_≡_, refl, sym, ap, _∙_}
 use Prim.Native.Nat.{ℕ, _+_, _-_, _≤_}
 use native.Mathlib.Omega.{arith}
 use mathlib.Core.Logic.{_↔_}
-use mathlib.Core.Bool.{Bool, true, false}
+use mathlib.Core.Bool.{Bool, true, false, cond}
 use mathlib.Core.List.{List}
 use lib.ListN.{length, take, drop, replicate, length-replicate}
 use lib.Seq.{take-at}
-use Rattle.cells.specs.Cells.{Bytes}
+use Rattle.cells.specs.Cells.{Bytes, Block}
 use Rattle.ciphers.specs.declared.Cipher.{Cipher}
 use Rattle.ciphers.specs.Ciphers.{blockOf}
-use Rattle.modes.specs.Blocks.{Block, pick}
 use Rattle.modes.specs.Mode.{Mode, Opened}
 use Rattle.modes.specs.Lawful.{Lawful}
 use Rattle.modes.proofs.Exact.{seal-run-block, seal-open, exact, unique, refused-iff}
@@ -42,7 +41,7 @@ mode-lawful Paef c key nonce ν e hk hn = paef-lawful (blockOf c) ν (skinny c k
 mode-lawful Saef c key nonce ν e hk hn = saef-lawful (blockOf c) ν (skinny c key) (skinny-laws c key hk) e nonce hn
 
 -- 0 is told only of a run that is authentic
-authentic-told : (b : Bool) (l : ℕ) (out room : List ℕ) → pick b (done l out room) (forged l room) .number ≡ 0 → b ≡ true
+authentic-told : (b : Bool) (l : ℕ) (out room : List ℕ) → cond b (done l out room) (forged l room) .number ≡ 0 → b ≡ true
 authentic-told true l out room e = refl
 authentic-told false l out room e = absurd (omega arith)
 
@@ -131,4 +130,4 @@ module _ (number : ℕ) (s : Scheme) (key nonce header : List ℕ) (ok : Admitte
         = refused-iff n M Ok lawful header (ok .header-bytes) run hr l .1
         (λ b hb e. none b (seals-to b run hb (omega (arith, sealed-long b hb, ap length e)) e)) in
         open-admitted number s key nonce header ok run room l h enough
-        ∙ ap (λ (b : Bool). pick b (done (length run - n) (opened s key nonce header run .body) room) (forged (length run - n) room)) a
+        ∙ ap (λ (b : Bool). cond b (done (length run - n) (opened s key nonce header run .body) room) (forged (length run - n) room)) a

@@ -3,11 +3,10 @@
 use mathlib.Core.Path.{_≡_, refl}
 use Prim.Native.Nat.{ℕ, zero, suc, _+_, _≤_}
 use native.Mathlib.Omega.{arith}
-use mathlib.Core.Bool.{Bool, true, false, not}
+use mathlib.Core.Bool.{Bool, true, false, not, cond}
 use mathlib.Core.List.{List}
 use lib.Dec.{eqb, ltb}
 use borrow.Author.Tests.{eqb-true, eq-eqb, ltb-false, le-ltb, not-false}
-use Rattle.modes.specs.Blocks.{pick}
 use Rattle.sealing.specs.declared.schemes.Scheme.{Scheme}
 use Rattle.sealing.specs.Checks.{checkOf}
 use Rattle.sealing.specs.Calls.{Told, refused, passed}
@@ -23,11 +22,11 @@ pub record Passed (s : Scheme) (key nonce header body more room : ℕ) : Type 0 
 -- ---- one check, and those behind it
 
 -- its number is not 0, so that where 0 is answered it did not apply
-past : (b : Bool) (k rest : ℕ) → pick b (suc k) rest ≡ 0 → (b ≡ false) × (rest ≡ 0)
+past : (b : Bool) (k rest : ℕ) → cond b (suc k) rest ≡ 0 → (b ≡ false) × (rest ≡ 0)
 past true k rest e = absurd (omega arith)
 past false k rest e = (refl, e)
 
-most : (b : Bool) (k rest : ℕ) → k ≤ 5 → rest ≤ 5 → pick b k rest ≤ 5
+most : (b : Bool) (k rest : ℕ) → k ≤ 5 → rest ≤ 5 → cond b k rest ≤ 5
 most true k rest h j = h
 most false k rest h j = j
 

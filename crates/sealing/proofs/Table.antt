@@ -3,11 +3,10 @@
 use mathlib.Core.Path.{_≡_, refl, ap, subst}
 use Prim.Native.Nat.{ℕ}
 use native.Mathlib.Omega.{arith}
-use mathlib.Core.Bool.{Bool, true, false}
+use mathlib.Core.Bool.{Bool, true, false, cond}
 use mathlib.Core.List.{List}
 use lib.Dec.{eqb}
 use borrow.Author.Tests.{ne-eqb}
-use Rattle.modes.specs.Blocks.{pick}
 use Rattle.sealing.specs.declared.schemes.Scheme.{Scheme}
 use Rattle.sealing.specs.declared.schemes.Named.{Named}
 use Rattle.sealing.specs.declared.schemes.Named.the-variants.{Known, Unknown}
@@ -39,7 +38,7 @@ abbrev Fitting : Named → Type 0
 Fitting (Known s) = Fits s
 Fitting Unknown = Unit
 
-pick-fits : (b : Bool) (m k : Named) → Fitting m → Fitting k → Fitting (pick b m k)
+pick-fits : (b : Bool) (m k : Named) → Fitting m → Fitting k → Fitting (cond b m k)
 pick-fits true m k p q = p
 pick-fits false m k p q = q
 

@@ -2,12 +2,11 @@
 use mathlib.Core.Path.{_≡_, refl, sym, ap, _∙_}
 use Prim.Native.Nat.{ℕ, zero, suc, _+_, _-_, _≤_}
 use native.Mathlib.Omega.{arith}
-use mathlib.Core.Bool.{Bool, true, false}
+use mathlib.Core.Bool.{Bool, true, false, cond}
 use mathlib.Core.List.{List}
 use lib.Dec.{ltb}
 use lib.ListN.{length}
 use Rattle.ciphers.specs.Ciphers.{blockOf}
-use Rattle.modes.specs.Blocks.{pick}
 use Rattle.sealing.specs.declared.Answer.{Answer}
 use Rattle.sealing.specs.declared.schemes.Scheme.{Scheme}
 use Rattle.sealing.specs.declared.schemes.Named.{Named}
@@ -20,7 +19,7 @@ use Rattle.sealing.proofs.Passed.{check-most}
 -- ---- for any property of what is told
 
 module _ (P : Told → Type 0) where
-  pick-all : (b : Bool) (t u : Told) → P t → P u → P (pick b t u)
+  pick-all : (b : Bool) (t u : Told) → P t → P u → P (cond b t u)
   pick-all true t u p q = p
   pick-all false t u p q = q
 

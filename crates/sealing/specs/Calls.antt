@@ -1,12 +1,11 @@
 -- What seal and open tell their caller, and what the room then holds, for every input (01, What a caller is told).
 -- Assumes nothing.
 use Prim.Native.Nat.{ℕ, zero, suc, _+_, _-_}
-use mathlib.Core.Bool.{false}
+use mathlib.Core.Bool.{false, cond}
 use mathlib.Core.List.{List, _++_}
 use lib.Dec.{ltb}
 use lib.ListN.{length, drop, replicate}
 use Rattle.ciphers.specs.Ciphers.{blockOf}
-use Rattle.modes.specs.Blocks.{pick}
 use Rattle.modes.specs.Mode.{Opened, sealRun, openRun}
 use Rattle.steps.specs.Modes.{modeOf}
 use Rattle.sealing.specs.declared.Answer.{Answer}
@@ -39,7 +38,7 @@ forged l room = record { number = 6; length = 0; room = replicate l 0 ++ drop l 
 
 -- what an open of a body of l bytes answers where the checks passed
 abbrev pub judged : Opened → ℕ → List ℕ → Told
-judged o l room = pick (o .authentic) (done l (o .body) room) (forged l room)
+judged o l room = cond (o .authentic) (done l (o .body) room) (forged l room)
 
 -- what is done where the checks answered 0, and else the refusal
 abbrev pub passed : ℕ → Told → List ℕ → Told

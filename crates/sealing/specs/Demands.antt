@@ -3,8 +3,7 @@ use mathlib.Core.Path.{_≡_}
 use Prim.Native.Nat.{ℕ, _≤_}
 use mathlib.Core.List.{List}
 use lib.ListN.{length}
-use Rattle.cells.specs.Cells.{Bytes}
-use Rattle.modes.specs.Blocks.{Block}
+use Rattle.cells.specs.Cells.{Bytes, Block}
 use Rattle.sealing.specs.declared.schemes.Scheme.{Scheme}
 use Rattle.sealing.specs.declared.schemes.Named.the-variants.{Known}
 use Rattle.sealing.specs.Schemes.{schemeOf}

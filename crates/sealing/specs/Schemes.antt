@@ -1,10 +1,10 @@
 -- The schemes: their ciphers, modes, sizes and limits (01, the desk's document 01, the table of schemes). Assumes nothing.
+use mathlib.Core.Bool.{cond}
 use mathlib.Core.Path.{_≡_}
 use Prim.Native.Nat.{ℕ, _+_, _≤_}
 use lib.Dec.{eqb}
 use Rattle.ciphers.specs.declared.Cipher.the-variants.{N64T192, N128T256}
 use Rattle.ciphers.specs.Ciphers.{blockOf}
-use Rattle.modes.specs.Blocks.{pick}
 use Rattle.steps.specs.declared.Kind.the-variants.{Paef, Saef}
 use Rattle.steps.specs.Modes.{tailOf}
 use Rattle.sealing.specs.declared.schemes.Scheme.{Scheme}
@@ -24,7 +24,7 @@ scheme3 = record { cipher = N128T256; kind = Saef; key = 16; nonce = 15; header 
 -- the scheme that a number names
 unfoldable pub schemeOf : ℕ → Named
 schemeOf number =
-    pick (eqb number 1) (Known scheme1) (pick (eqb number 2) (Known scheme2) (pick (eqb number 3) (Known scheme3) Unknown))
+    cond (eqb number 1) (Known scheme1) (cond (eqb number 2) (Known scheme2) (cond (eqb number 3) (Known scheme3) Unknown))
 
 -- what the walks ask of a scheme: a key of sixteen bytes, a nonce that fills the tweak, limits that are numbers of 32 bits
 pub record Fits (s : Scheme) : Type 0 where

@@ -151,15 +151,16 @@ pub fn open(
     }
 }
 
-// The part of the room that an answer speaks of; after a refusal, or with a length above the room's, the empty part.
-pub fn view(number: u32, length: usize, room: &mut [u8]) -> &mut [u8]
+// The part of the room that an answer speaks of; after a refusal, or with a length above the room's, the empty part. The room is lent
+// to be read, so that no byte of it can change.
+pub fn view(number: u32, length: usize, room: &[u8]) -> &[u8]
     ensures { λ r. ⌜ now r ≡ viewOf number length (now (room .entry)) ⌝ }
 {
     if number != 0 {
-        return &mut room[..0];
+        return &room[..0];
     }
     if room.len() < length {
-        return &mut room[..0];
+        return &room[..0];
     }
-    &mut room[..length]
+    &room[..length]
 }

@@ -7,13 +7,12 @@ use native.Mathlib.Omega.{arith}
 use lib.ListN.{length, take, replicate}
 use lib.Seq.{take-all, take-at, length-take-le}
 use Rattle.ciphers.proofs.Laws.{block-most}
-use Rattle.cells.specs.Cells.{Bytes}
+use Rattle.cells.specs.Cells.{Bytes, Block}
 use Rattle.ciphers.specs.declared.Cipher.{Cipher}
 use Rattle.ciphers.specs.declared.Cipher.the-variants.{N64T192, N128T256}
 use Rattle.ciphers.specs.Ciphers.{widthOf, blockOf, counted}
 use Rattle.forkskinny.specs.ForkSkinny.{half, input, other}
 use Rattle.forkskinny.proofs.Forkcipher as F
-use Rattle.modes.specs.Blocks.{Block}
 use Rattle.modes.specs.Forkcipher.{ForkLaws}
 use Rattle.modes.proofs.Bytes.{block-take, block-zeros, block-append}
 use Rattle.steps.specs.Skinny.{skinny}
@@ -50,7 +49,7 @@ module _ (c : Cipher) (key : List ℕ) (hk : Bytes key) (tweak : List ℕ) (ht :
     cut : take n (wide x) ≡ x
     cut = take-at x (replicate (16 - n) 0) n (b .long)
 
-    sixteen : F.Block (wide x)
+    sixteen : Block 16 (wide x)
     sixteen =
         let w : Block (n + (16 - n)) (wide x) = block-append b (block-zeros (16 - n)) in
         record { long = w .long ∙ omega (arith, block-most c); bytes = w .bytes }
@@ -64,7 +63,7 @@ module _ (c : Cipher) (key : List ℕ) (hk : Bytes key) (tweak : List ℕ) (ht :
     back-front : take n (counted (widthOf c) (wide x)) ≡ x
     back-front = counted-front c (wide x) (sixteen .long) ∙ cut
 
-    front-block : (y : List ℕ) → F.Block y → Block n (take n y)
+    front-block : (y : List ℕ) → Block 16 y → Block n (take n y)
     front-block y h = block-take n y (omega (arith, h .long, block-most c)) (h .bytes)
 
     half-to : (h : ℕ) → Block n (take n (half c key tweak h x))

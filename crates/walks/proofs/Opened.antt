@@ -14,7 +14,7 @@ use Rattle.ciphers.proofs.Laws.{block-some, block-most}
 use Rattle.ciphers.specs.declared.Cipher.{Cipher}
 use Rattle.ciphers.specs.Ciphers.{blockOf}
 use Rattle.modes.specs.Blocks.{full, ten, pad, same}
-use Rattle.modes.specs.Mode.{Mode, Opened, before, judge, tagOf, blockOf as headOf, openLast, openRest}
+use Rattle.modes.specs.Mode.{Mode, Opened, before, judge, endTag, endBlock, openLast, openRest}
 use Rattle.modes.proofs.Bytes.{pad-long}
 use Rattle.modes.proofs.Turn.{Opening, open-begin, open-turn, open-end}
 use Rattle.steps.specs.declared.Kind.{Kind}
@@ -63,10 +63,10 @@ module _ {St : Type 0} (n : ℕ) (M : Mode St) (st : St) (part first second : Li
 
   open-is : M .blockFirst ≡ true → take n first ≡ M .unfin (full n r) st (take n part)
       → take n second ≡ M .untag (full n r) st (take n part) → openLast n M st part ≡ judge n r (take n first) (take n second) (drop n part)
-  unfolding openLast headOf tagOf
+  unfolding openLast endBlock endTag
   open-is e ef es =
       let f = full n r in
-      ap (λ (b : Bool). judge n r (M .unfin f st (headOf b n r part)) (M .untag f st (headOf b n r part)) (tagOf b n r part)) e
+      ap (λ (b : Bool). judge n r (M .unfin f st (endBlock b n r part)) (M .untag f st (endBlock b n r part)) (endTag b n r part)) e
       ∙ ap₂ (λ (x y : List ℕ). judge n r x y (drop n part)) (sym ef) (sym es)
 
   judge-is : r ≤ n → n ≤ 16 → length first ≡ 16
