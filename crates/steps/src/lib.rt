@@ -11,6 +11,7 @@ ghost use Rattle.ciphers.specs.Ciphers.{blockOf};
 ghost use Rattle.steps.specs.Modes.{modeOf, tailOf, stateOf};
 ghost use Rattle.steps.specs.Steps.{Stepped, Paired};
 
+// The modes, by name.
 pub enum Kind {
     Paef,
     Saef,
