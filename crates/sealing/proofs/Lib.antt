@@ -4,4 +4,4 @@ pub mod Demands
 mod Exactly
 pub mod Passed
 pub mod Table
-mod Ways
+pub mod Ways

@@ -1,5 +1,5 @@
--- The table of schemes: 1, 2 and 3 name the three, other numbers none; every scheme that is named fits the walks, and a call by its
--- number is the call under it. Assumes nothing.
+-- The table of schemes: 1, 2 and 3 name the three, other numbers none; what holds of the three holds of what is named, so that
+-- it fits the walks; and a call by a number is the call under what it names. Assumes nothing.
 use mathlib.Core.Path.{_≡_, refl, ap, subst}
 use Prim.Native.Nat.{ℕ}
 use native.Mathlib.Omega.{arith}
@@ -31,16 +31,26 @@ pub none-named : (number : ℕ) → (number ≡ 1 → ⊥) → (number ≡ 2 →
 unfolding schemeOf
 none-named number a b c = simp (ne-eqb number 1 a, ne-eqb number 2 b, ne-eqb number 3 c)
 
--- ---- what is named fits
+-- ---- what holds of the three holds of whatever a number names
 
--- of whatever a number names, so that the tests of the number need not be looked at
-abbrev Fitting : Named → Type 0
-Fitting (Known s) = Fits s
-Fitting Unknown = Unit
+module _ (P : Scheme → Type 0) where
+  -- of whatever is named, so that the tests of the number need not be looked at
+  abbrev Named-so : Named → Type 0
+  Named-so (Known s) = P s
+  Named-so Unknown = Unit
 
-pick-fits : (b : Bool) (m k : Named) → Fitting m → Fitting k → Fitting (cond b m k)
-pick-fits true m k p q = p
-pick-fits false m k p q = q
+  pick-so : (b : Bool) (m k : Named) → Named-so m → Named-so k → Named-so (cond b m k)
+  pick-so true m k p q = p
+  pick-so false m k p q = q
+
+  all-so : P scheme1 → P scheme2 → P scheme3 → (number : ℕ) → Named-so (schemeOf number)
+  unfolding schemeOf
+  all-so a b c number =
+      pick-so (eqb number 1) (Known scheme1) _ a
+      (pick-so (eqb number 2) (Known scheme2) _ b (pick-so (eqb number 3) (Known scheme3) Unknown c tt))
+
+  pub each-named : P scheme1 → P scheme2 → P scheme3 → (number : ℕ) (s : Scheme) → schemeOf number ≡ Known s → P s
+  each-named a b c number s e = subst Named-so e (all-so a b c number)
 
 fits1 : Fits scheme1
 fits1 = record { key = refl; nonce = refl; header = omega arith; body = omega arith }
@@ -51,14 +61,8 @@ fits2 = record { key = refl; nonce = refl; header = omega arith; body = omega ar
 fits3 : Fits scheme3
 fits3 = record { key = refl; nonce = refl; header = omega arith; body = omega arith }
 
-all-fit : (number : ℕ) → Fitting (schemeOf number)
-unfolding schemeOf
-all-fit number =
-    pick-fits (eqb number 1) (Known scheme1) _ fits1
-    (pick-fits (eqb number 2) (Known scheme2) _ fits2 (pick-fits (eqb number 3) (Known scheme3) Unknown fits3 tt))
-
 pub named-fits : (number : ℕ) (s : Scheme) → schemeOf number ≡ Known s → Fits s
-named-fits number s e = subst Fitting e (all-fit number)
+named-fits = each-named Fits fits1 fits2 fits3
 
 -- ---- the calls by a number that names a scheme
 

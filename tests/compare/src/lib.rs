@@ -1,7 +1,7 @@
-//! The second program: ForkSkinny-64-192 and ForkSkinny-128-256, and the three
-//! sealing schemes over them, written once more, from the documents alone, to
-//! be compared with the library. Plain portable code on flat arrays of cells;
-//! it shares no line with the library.
+//! The second program: ForkSkinny-64-192 and ForkSkinny-128-256, the three
+//! sealing schemes over them and the desk's program, written once more, from
+//! the documents alone, to be compared with the library. Plain portable code on
+//! flat arrays of cells; it shares no line with the library.
 //!
 //! Documents are named as in the comments: "document 01" is the scope paper,
 //! "001" is the paper Forkcipher (extended version).
@@ -11,6 +11,7 @@ pub mod calls;
 pub mod cells;
 pub mod forged;
 pub mod forkskinny;
+pub mod jobs;
 pub mod paef;
 pub mod random;
 pub mod rounds;

@@ -1,0 +1,100 @@
+-- `job::run` meets its contract: a sound job is answered by its sections' seal or open. Assumes nothing.
+use mathlib.Core.Path.{_∙_}
+use native.Mathlib.Omega.{arith}
+use Rattle.job.proofs.Reading.{unsound, front, key-whole, nonce-whole, header-whole, body-whole, sealing, opening}
+use borrow.Author.Needs.{needs}
+use Rattle.job.proofs.run.Statement.{statement}
+use Rattle.job.proofs.run.Tie as tie
+
+sound-requires : tie.Need-sound-requires
+sound-requires c κs = search needs
+
+returns : tie.Need-returns
+returns c = unsound (c .before .before .before .before .args .job .now) _ (c .before .sound .ensures) (c .if1 .taken)
+
+shared-slice-read-scheme : tie.Need-shared-slice-read-scheme
+shared-slice-read-scheme c = omega (arith, front (c .before .before .before .before .before .args .job .now) (c .before .before .sound .ensures) (c .before .if1 .left))
+
+shared-slice-read-direction : tie.Need-shared-slice-read-direction
+shared-slice-read-direction c = omega (arith, front (c .before .before .before .before .before .before .args .job .now) (c .before .before .before .sound .ensures) (c .before .before .if1 .left))
+
+sub-from-key : tie.Need-sub-from-key
+sub-from-key c = omega (arith, front (c .before .before .before .before .before .before .args .job .now) (c .before .before .before .sound .ensures) (c .before .before .if1 .left))
+
+part-from-key-start : tie.Need-part-from-key-start
+part-from-key-start c = omega (arith, front (c .before .before .before .before .before .before .args .job .now) (c .before .before .before .sound .ensures) (c .before .before .if1 .left))
+
+part-from-key-end : tie.Need-part-from-key-end
+part-from-key-end c = search needs
+
+behind-requires : tie.Need-behind-requires
+behind-requires c κs = key-whole (c .before .before .before .before .before .before .before .args .job .now) (c .before .before .before .before .sound .ensures) (c .before .before .before .if1 .left)
+
+behind-requires-2 : tie.Need-behind-requires-2
+behind-requires-2 c κs = nonce-whole (c .before .before .before .before .before .before .before .before .args .job .now) (c .before .before .before .before .before .sound .ensures) (c .before .before .before .before .if1 .left) (c .behind .ensures)
+
+behind-requires-3 : tie.Need-behind-requires-3
+behind-requires-3 c κs = header-whole (c .before .before .before .before .before .before .before .before .before .args .job .now) (c .before .before .before .before .before .before .sound .ensures) (c .before .before .before .before .before .if1 .left) (c .before .behind .ensures) (c .behind2 .ensures)
+
+section-requires : tie.Need-section-requires
+section-requires c κs = key-whole (c .before .before .before .before .before .before .before .before .before .before .args .job .now) (c .before .before .before .before .before .before .before .sound .ensures) (c .before .before .before .before .before .before .if1 .left)
+
+section-requires-2 : tie.Need-section-requires-2
+section-requires-2 c κs = nonce-whole (c .before .before .before .before .before .before .before .before .before .before .before .args .job .now) (c .before .before .before .before .before .before .before .before .sound .ensures) (c .before .before .before .before .before .before .before .if1 .left) (c .before .before .before .behind .ensures)
+
+section-requires-3 : tie.Need-section-requires-3
+section-requires-3 c κs = header-whole (c .before .before .before .before .before .before .before .before .before .before .before .before .args .job .now) (c .before .before .before .before .before .before .before .before .before .sound .ensures) (c .before .before .before .before .before .before .before .before .if1 .left) (c .before .before .before .before .behind .ensures) (c .before .before .before .behind2 .ensures)
+
+section-requires-4 : tie.Need-section-requires-4
+section-requires-4 c κs = body-whole (c .before .before .before .before .before .before .before .before .before .before .before .before .before .args .job .now) (c .before .before .before .before .before .before .before .before .before .before .sound .ensures) (c .before .before .before .before .before .before .before .before .before .if1 .left) (c .before .before .before .before .before .behind .ensures) (c .before .before .before .before .behind2 .ensures) (c .before .before .before .behind3 .ensures)
+
+cast-seal : tie.Need-cast-seal
+cast-seal c = omega (arith, c .before .before .before .before .before .before .before .before .before .before .shared-slice-known2 .given 0)
+
+seal-requires : tie.Need-seal-requires
+seal-requires c κs = search needs
+
+same-length : tie.Need-same-length
+same-length c = search needs
+
+returns-2 : tie.Need-returns-2
+returns-2 c = c .before .before .seal .ensures ∙ sealing (c .before .before .before .before .before .before .before .before .before .before .before .before .before .before .before .before .before .before .before .args .job .now) (c .before .before .before .before .before .before .before .before .before .before .before .before .before .before .before .before .sound .ensures) (c .before .before .before .before .before .before .before .before .before .before .before .before .before .before .before .if1 .left) (c .before .before .before .before .before .before .before .before .before .before .before .behind .ensures) (c .before .before .before .before .before .before .before .before .before .before .behind2 .ensures) (c .before .before .before .before .before .before .before .before .before .behind3 .ensures) (c .before .before .before .before .before .before .before .before .section .ensures) (c .before .before .before .before .before .before .before .section2 .ensures) (c .before .before .before .before .before .before .section3 .ensures) (c .before .before .before .before .before .section4 .ensures) _ (c .before .before .before .before .if2 .taken)
+
+cast-open : tie.Need-cast-open
+cast-open c = omega (arith, c .before .before .before .before .before .before .before .before .before .before .shared-slice-known2 .given 0)
+
+open-requires : tie.Need-open-requires
+open-requires c κs = search needs
+
+same-length-2 : tie.Need-same-length-2
+same-length-2 c = search needs
+
+returns-3 : tie.Need-returns-3
+returns-3 c = c .before .before .open .ensures ∙ opening (c .before .before .before .before .before .before .before .before .before .before .before .before .before .before .before .before .before .before .before .args .job .now) (c .before .before .before .before .before .before .before .before .before .before .before .before .before .before .before .before .sound .ensures) (c .before .before .before .before .before .before .before .before .before .before .before .before .before .before .before .if1 .left) (c .before .before .before .before .before .before .before .before .before .before .before .behind .ensures) (c .before .before .before .before .before .before .before .before .before .before .behind2 .ensures) (c .before .before .before .before .before .before .before .before .before .behind3 .ensures) (c .before .before .before .before .before .before .before .before .section .ensures) (c .before .before .before .before .before .before .before .section2 .ensures) (c .before .before .before .before .before .before .section3 .ensures) (c .before .before .before .before .before .section4 .ensures) _ (c .before .before .before .before .if2 .left)
+
+pub run-spec : {M : Type 1} → statement M
+run-spec =
+    tie.close
+    (tie.spec
+    sound-requires
+    returns
+    shared-slice-read-scheme
+    shared-slice-read-direction
+    sub-from-key
+    part-from-key-start
+    part-from-key-end
+    behind-requires
+    behind-requires-2
+    behind-requires-3
+    section-requires
+    section-requires-2
+    section-requires-3
+    section-requires-4
+    cast-seal
+    seal-requires
+    same-length
+    returns-2
+    cast-open
+    open-requires
+    same-length-2
+    returns-3)

@@ -1,0 +1,66 @@
+-- `job::sections::four` meets its contract: section by section. Assumes nothing.
+use mathlib.Core.Path.{sym, _∙_}
+use borrow.Author.Tests.{not-false}
+use Rattle.job.specs.Sections.{sections}
+use Rattle.job.proofs.Wholes.{cut, more}
+use borrow.Author.Needs.{needs}
+use Rattle.job.proofs.sections.four.Statement.{statement}
+use Rattle.job.proofs.sections.four.Tie as tie
+
+whole-requires : tie.Need-whole-requires
+whole-requires c κs = search needs
+
+returns : tie.Need-returns
+returns c = cut 3 _ (c .before .whole .ensures) (c .if1 .taken)
+
+behind-requires : tie.Need-behind-requires
+behind-requires c κs = sym (c .before .whole .ensures) ∙ not-false _ (c .if1 .left)
+
+whole-requires-2 : tie.Need-whole-requires-2
+whole-requires-2 c κs = search needs
+
+returns-2 : tie.Need-returns-2
+returns-2 c = cut 2 _ (c .before .whole2 .ensures) (c .if2 .taken) ∙ sym (more 3 _ (c .before .before .before .before .whole .ensures) (c .before .before .before .if1 .left) (c .before .before .behind .ensures))
+
+behind-requires-2 : tie.Need-behind-requires-2
+behind-requires-2 c κs = sym (c .before .whole2 .ensures) ∙ not-false _ (c .if2 .left)
+
+whole-requires-3 : tie.Need-whole-requires-3
+whole-requires-3 c κs = search needs
+
+returns-3 : tie.Need-returns-3
+returns-3 c = cut 1 _ (c .before .whole3 .ensures) (c .if3 .taken) ∙ sym (more 3 _ (c .before .before .before .before .before .before .before .whole .ensures) (c .before .before .before .before .before .before .if1 .left) (c .before .before .before .before .before .behind .ensures) ∙ more 2 _ (c .before .before .before .before .whole2 .ensures) (c .before .before .before .if2 .left) (c .before .before .behind2 .ensures))
+
+behind-requires-3 : tie.Need-behind-requires-3
+behind-requires-3 c κs = sym (c .before .whole3 .ensures) ∙ not-false _ (c .if3 .left)
+
+whole-requires-4 : tie.Need-whole-requires-4
+whole-requires-4 c κs = search needs
+
+returns-4 : tie.Need-returns-4
+returns-4 c = cut 0 _ (c .before .whole4 .ensures) (c .if4 .taken) ∙ sym (more 3 _ (c .before .before .before .before .before .before .before .before .before .before .whole .ensures) (c .before .before .before .before .before .before .before .before .before .if1 .left) (c .before .before .before .before .before .before .before .before .behind .ensures) ∙ more 2 _ (c .before .before .before .before .before .before .before .whole2 .ensures) (c .before .before .before .before .before .before .if2 .left) (c .before .before .before .before .before .behind2 .ensures) ∙ more 1 _ (c .before .before .before .before .whole3 .ensures) (c .before .before .before .if3 .left) (c .before .before .behind3 .ensures))
+
+behind-requires-4 : tie.Need-behind-requires-4
+behind-requires-4 c κs = sym (c .before .whole4 .ensures) ∙ not-false _ (c .if4 .left)
+
+returns-5 : tie.Need-returns-5
+unfolding sections
+returns-5 c = sym (more 3 _ (c .before .before .before .before .before .before .before .before .before .before .before .whole .ensures) (c .before .before .before .before .before .before .before .before .before .before .if1 .left) (c .before .before .before .before .before .before .before .before .before .behind .ensures) ∙ more 2 _ (c .before .before .before .before .before .before .before .before .whole2 .ensures) (c .before .before .before .before .before .before .before .if2 .left) (c .before .before .before .before .before .before .behind2 .ensures) ∙ more 1 _ (c .before .before .before .before .before .whole3 .ensures) (c .before .before .before .before .if3 .left) (c .before .before .before .behind3 .ensures) ∙ more 0 _ (c .before .before .whole4 .ensures) (c .before .if4 .left) (c .behind4 .ensures))
+
+pub four-spec : {M : Type 1} → statement M
+four-spec =
+    tie.close
+    (tie.spec
+    whole-requires
+    returns
+    behind-requires
+    whole-requires-2
+    returns-2
+    behind-requires-2
+    whole-requires-3
+    returns-3
+    behind-requires-3
+    whole-requires-4
+    returns-4
+    behind-requires-4
+    returns-5)
