@@ -1,8 +1,14 @@
-/* Auraski for C: sealing and opening of records with PAEF and SAEF, and ForkSkinny's block calls. Link with libauraski.a; nothing
- * else is needed.
+/* Auraski for C: sealing and opening of records with PAEF and SAEF, and ForkSkinny's block calls.
  *
- * No pointer may be null, also where its length is 0. What a call writes must not overlap anything else that it is given.
- * Every call returns, for every value of every argument and every length.
+ * libauraski.a is x86-64 code with the calling convention of Linux. It calls memcpy and memset and nothing else, allocates nothing,
+ * prints nothing and keeps nothing from one call to the next: calls may run at the same time in several threads. A call does not wipe
+ * its stack (under 3 KB, as measured): parts of key and body stay behind there. How long a call takes, and which memory it reads, may
+ * depend on the key and the data.
+ *
+ * A pointer stands for as many bytes as the length behind it says. No pointer may be null; where the length is 0 any other will do, and
+ * nothing is read or written through it. What a call writes (room and *length, or both result blocks) must not overlap anything else
+ * that it is given, so that nothing is sealed or opened in place; what it only reads may overlap. A call changes nothing but what is
+ * said below, and returns, for every value of every argument and every length.
  */
 #ifndef AURASKI_H
 #define AURASKI_H
@@ -18,57 +24,77 @@ extern "C" {
 
 /* Schemes. A key has 16 bytes under each. The nonce must not be used twice under one key.
  *
- *                            block   nonce   header and body, at most
- *   1  PAEF over 64-192          8       6    65,528 bytes each
- *   2  PAEF over 128-256        16      14   131,056
- *   3  SAEF over 128-256        16      15   131,056
- */
+ *                            block   nonce   header at most   body at most   so a sealed run has
+ *   1  PAEF over 64-192          8       6           65,528         65,528   8 to 65,536 bytes
+ *   2  PAEF over 128-256        16      14          131,056        131,056   16 to 131,072
+ *   3  SAEF over 128-256        16      15          131,056        131,056   16 to 131,072
+ *
+ * Header and body may be empty. The header is not part of the sealed run: who opens it has to have it. */
 #define AURASKI_PAEF_64_192 1u
 #define AURASKI_PAEF_128_256 2u
 #define AURASKI_SAEF_128_256 3u
 
 #define AURASKI_KEY_BYTES 16u
 
-/* Answers. The first that applies, in this order; 0 is the last. */
+/* A sealed run has this many bytes more than its body. */
+#define AURASKI_PAEF_64_192_BLOCK 8u
+#define AURASKI_PAEF_128_256_BLOCK 16u
+#define AURASKI_SAEF_128_256_BLOCK 16u
+
+#define AURASKI_PAEF_64_192_NONCE 6u
+#define AURASKI_PAEF_128_256_NONCE 14u
+#define AURASKI_SAEF_128_256_NONCE 15u
+
+/* The longest header, and the longest body. */
+#define AURASKI_PAEF_64_192_LIMIT 65528u
+#define AURASKI_PAEF_128_256_LIMIT 131056u
+#define AURASKI_SAEF_128_256_LIMIT 131056u
+
+/* Answers. The checks are made in the order 1 to 6, and the first that applies answers; if none does, it is 0. */
 #define AURASKI_DONE 0u
 #define AURASKI_UNKNOWN 1u      /* no such scheme (block calls: no such cipher, half or choice) */
-#define AURASKI_KEY_OR_NONCE 2u /* the key's or the nonce's length is wrong */
-#define AURASKI_TOO_LONG 3u     /* the header or the body is longer than the scheme takes */
+#define AURASKI_KEY_OR_NONCE 2u /* the key's or the nonce's length is not the scheme's */
+#define AURASKI_TOO_LONG 3u     /* the header or the body is longer than the scheme takes (open: the run less a block) */
 #define AURASKI_TOO_SHORT 4u    /* open: the sealed run is shorter than a block */
-#define AURASKI_ROOM 5u         /* the room is shorter than the output */
-#define AURASKI_FORGED 6u       /* open: not authentic */
+#define AURASKI_ROOM 5u         /* the room is shorter than the output; one of exactly its length is enough */
+#define AURASKI_FORGED 6u       /* open: not authentic: no body seals to this run under this key, nonce and header */
 
-/* Seals a body under a header: the sealed run, which is one block longer than the body, goes to the front of the room, and its
- * length to *length. The rest of the room is unchanged. Refused with 1, 2, 3 or 5: length 0, the room unchanged. */
+/* Seals a body under a header. The sealed run has body_len and a block of bytes. With 0 it goes to the front of the room and its length
+ * to *length; the rest of the room is unchanged. Refused with 1, 2, 3 or 5: *length is 0, the room unchanged. */
 uint32_t auraski_seal(uint32_t scheme, const uint8_t *key, size_t key_len, const uint8_t *nonce, size_t nonce_len,
                       const uint8_t *header, size_t header_len, const uint8_t *body, size_t body_len, uint8_t *room,
                       size_t room_len, size_t *length);
 
-/* Opens a sealed run: the body, which is one block shorter, goes to the front of the room, and its length to *length. The rest of
- * the room is unchanged. Refused with 1, 2, 3, 4 or 5: length 0, the room unchanged. Refused with 6: length 0, zeros where the body
- * would have been, the rest unchanged. */
+/* Opens a sealed run. The body has sealed_len less a block of bytes. With 0 it goes to the front of the room and its length, which may
+ * be 0, to *length; the rest of the room is unchanged. Refused with 1, 2, 3, 4 or 5: *length is 0, the room unchanged. Refused with 6:
+ * *length is 0, zeros where the body would have been, the rest unchanged. Only the answer 0 says that a run is authentic, and until the
+ * call returns the room may hold what is not. */
 uint32_t auraski_open(uint32_t scheme, const uint8_t *key, size_t key_len, const uint8_t *nonce, size_t nonce_len,
                       const uint8_t *header, size_t header_len, const uint8_t *sealed, size_t sealed_len, uint8_t *room,
                       size_t room_len, size_t *length);
 
-/* ---- the block calls: each block has sixteen bytes, and both result blocks are always written ---- */
+/* ---- the block calls: AURASKI_DONE or AURASKI_UNKNOWN ---- */
 
-/* Ciphers. Under ForkSkinny-64-192 only the first 8 bytes of tweak and block count, and bytes 8 to 15 of every block
- * that a call gives are zero. The key has 16 bytes under both. */
+/* Ciphers. Every key, tweak and block has sixteen bytes under both. Under ForkSkinny-64-192 only the first 8 of tweak and block count,
+ * and bytes 8 to 15 of every block that a call gives are zero. */
 #define AURASKI_64_192 1u
 #define AURASKI_128_256 2u
 
-/* What a call shall give: its first block, its second, or both. What was not asked for comes as zeros. A call that is refused,
- * with 1, gives zeros. */
+/* What a call shall give: its first result block, its second, or both. Both blocks are always written: the one that was not asked for
+ * with zeros, and both with zeros if the call is refused. */
 #define AURASKI_FIRST 0u
 #define AURASKI_SECOND 1u
 #define AURASKI_BOTH 2u
 
-/* Forward: half 0 and half 1 of a block. */
+/* Which half a block is, for the way back. */
+#define AURASKI_HALF_0 0u
+#define AURASKI_HALF_1 1u
+
+/* Forward: half 0 (the first result) and half 1 (the second) of a block. */
 uint32_t auraski_fork(uint32_t cipher, const uint8_t key[16], const uint8_t tweak[16], const uint8_t block[16],
                       uint32_t want, uint8_t half0[16], uint8_t half1[16]);
 
-/* Back from half 0 or half 1 (from), which `block` is: the input block and the other half. */
+/* Back: `block` is the half that `from` says. The input block (the first result) and the other half (the second). */
 uint32_t auraski_unfork(uint32_t cipher, const uint8_t key[16], const uint8_t tweak[16], const uint8_t block[16],
                         uint32_t from, uint32_t want, uint8_t input[16], uint8_t other[16]);
 

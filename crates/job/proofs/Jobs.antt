@@ -2,17 +2,17 @@
 -- `job::answer` cite. Assumes nothing.
 use mathlib.Core.Path.{_≡_, refl, sym, ap, _∙_}
 use mathlib.Core.Bool.{Bool, true, false}
-use mathlib.Core.List.{List, [], _∷_}
+use mathlib.Core.List.{List, [], _∷_, _++_}
 use Prim.Native.Nat.{ℕ, zero, suc, _≤_}
 use native.Mathlib.Omega.{arith}
-use lib.ListN.{length}
+use lib.ListN.{length, drop}
 use Rattle.cells.specs.Cells.{Bytes}
 use Rattle.sealing.specs.declared.Answer.{Answer}
 use Rattle.sealing.specs.Schemes.{schemeOf}
 use Rattle.sealing.specs.Checks.{checkOf}
 use Rattle.sealing.specs.Calls.{Told, told, refused, sealUnder, sealOf, openOf}
 use Rattle.sealing.proofs.Ways.{seal-ways, open-ways, told-same}
-use Rattle.job.specs.Job.{Job, written, isSound, jobOf, directed}
+use Rattle.job.specs.Job.{Job, written, isSound, jobOf, directed, printed}
 use Rattle.job.proofs.Enough.{enough}
 use Rattle.job.proofs.Reading.{unsound}
 use Rattle.job.proofs.Taken.{written-answer, sound-written}
@@ -74,7 +74,14 @@ no-key room = refl
 pub documents-job : (room : List ℕ) → jobOf (1 ∷ 0 ∷ 0 ∷ 0 ∷ 0 ∷ 0 ∷ 0 ∷ 0 ∷ 0 ∷ 0 ∷ []) room ≡ refused 2 room
 documents-job room = job-seals 1 [] [] [] [] room (omega arith) ∙ no-key room
 
--- ---- two results that the contract allows are equal
+-- ---- two results that a contract allows are equal
 
 pub same-run : (job room : List ℕ) (a b : Answer) (r q : List ℕ) → told a r ≡ jobOf job room → told b q ≡ jobOf job room → (a ≡ b) × (r ≡ q)
 same-run job room a b r q = told-same a b r q (jobOf job room)
+
+pub same-answer : (job room text : List ℕ) (k l : ℕ) (t u : List ℕ)
+    → (k ≡ length (printed job room)) × (t ≡ printed job room ++ drop k text)
+    → (l ≡ length (printed job room)) × (u ≡ printed job room ++ drop l text) → (k ≡ l) × (t ≡ u)
+same-answer job room text k l t u (a, p) (b, q) =
+    let e = a ∙ sym b in
+    (e, p ∙ ap (λ (n : ℕ). printed job room ++ drop n text) e ∙ sym q)

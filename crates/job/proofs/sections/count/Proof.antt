@@ -12,19 +12,19 @@ shared-slice-read-low : tie.Need-shared-slice-read-low
 shared-slice-read-low c = search needs
 
 cast-result : tie.Need-cast-result
-cast-result c = omega (arith, c .before .shared-slice-known .given 0)
+cast-result c = omega (arith, c .shared-slice-known2 .given 0, c .shared-slice-known2 .given 1)
 
 mul-result : tie.Need-mul-result
-mul-result c = omega (arith, c .before .shared-slice-known .given 0)
+mul-result c = omega (arith, c .shared-slice-known2 .given 0, c .shared-slice-known2 .given 1)
 
 cast-result-2 : tie.Need-cast-result-2
-cast-result-2 c = omega (arith, c .shared-slice-known2 .given 1)
+cast-result-2 c = omega (arith, c .shared-slice-known2 .given 0, c .shared-slice-known2 .given 1)
 
 add-result : tie.Need-add-result
-add-result c = omega (arith, c .before .shared-slice-known .given 0, c .shared-slice-known2 .given 1)
+add-result c = omega (arith, c .shared-slice-known2 .given 0, c .shared-slice-known2 .given 1)
 
 returns : tie.Need-returns
-returns c = (refl, omega (arith, c .before .shared-slice-known .given 0, c .shared-slice-known2 .given 1))
+returns c = (refl, omega (arith, c .shared-slice-known2 .given 0, c .shared-slice-known2 .given 1))
 
 pub count-spec : {M : Type 1} → statement M
 count-spec =
