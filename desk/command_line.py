@@ -1,0 +1,57 @@
+"""The words after tools/desk."""
+import argparse
+
+import commands
+import helps
+import jobs
+from trouble import Trouble
+
+
+class Parser(argparse.ArgumentParser):
+    def error(self, message):
+        raise Trouble(f"{message}; `{self.prog} --help` shows how")
+
+
+class Once(argparse.Action):
+    """An option that is given twice is a slip; argparse would take the last."""
+
+    def __call__(self, parser, namespace, values, option_string=None):
+        if getattr(namespace, self.dest) is not None:
+            parser.error(f"{option_string} is given a second time")
+        setattr(namespace, self.dest, values)
+
+
+def add_command(kinds, name, what, about, more):
+    """No abbreviations: a slip must not be taken for another option."""
+    return kinds.add_parser(
+        name, help=what, description=about, epilog=more, allow_abbrev=False,
+        formatter_class=argparse.RawDescriptionHelpFormatter,
+    )
+
+
+def add_job_options(kind, direction, last_names, last_help):
+    kind.add_argument("--scheme", metavar="N", required=True, action=Once, help=helps.SCHEME)
+    kind.add_argument("--key", metavar="VALUE", required=True, action=Once, help="16 bytes")
+    kind.add_argument("--nonce", metavar="VALUE", required=True, action=Once, help="6, 14 or 15 bytes, by the scheme")
+    kind.add_argument("--header", metavar="VALUE", action=Once, help="empty if left out")
+    kind.add_argument(*last_names, dest="body", metavar="VALUE", action=Once, help=last_help)
+    kind.add_argument("--job", metavar="FILE", action=Once, help="also write the job's bytes, for `sealjob < FILE`")
+    kind.add_argument("--out", metavar="FILE", action=Once, help=helps.OUT)
+    kind.set_defaults(action=commands.one_job, direction=direction, last=last_names[0])
+
+
+def parser():
+    top = Parser(prog="tools/desk", description=helps.ABOUT, epilog=helps.EXAMPLES, allow_abbrev=False,
+                 formatter_class=argparse.RawDescriptionHelpFormatter)
+    kinds = top.add_subparsers(title="commands", metavar="COMMAND", required=True, parser_class=Parser)
+    seal = add_command(kinds, "seal", "seal a body under a header", helps.SEAL, helps.JOB + helps.SEAL_EXAMPLE)
+    add_job_options(seal, jobs.SEAL, ["--body"], "what is sealed; empty if left out")
+    opening = add_command(kinds, "open", "open a sealed run", helps.OPEN, helps.JOB + helps.OPEN_EXAMPLE)
+    add_job_options(opening, jobs.OPEN, ["--sealed", "--body"], "the sealed run; empty if left out")
+    run = add_command(kinds, "run", "run job sheets and raw jobs", helps.RUN, helps.SHEET)
+    run.add_argument("files", metavar="FILE", nargs="+", help="a sheet, or a raw job if its name ends in .job")
+    run.set_defaults(action=commands.run_files)
+    explain = add_command(kinds, "explain", "say what an answer number means", helps.EXPLAIN, helps.EXPLAIN_EXAMPLE)
+    explain.add_argument("number", metavar="NUMBER", nargs="?", help="0 to 6, or 9")
+    explain.set_defaults(action=commands.explain_number)
+    return top

@@ -1,0 +1,105 @@
+"""What each answer number says, what to check next, and what the output and the room then hold."""
+import textwrap
+from collections import namedtuple
+
+from trouble import Trouble
+
+Number = namedtuple("Number", "title says next holds")
+
+ORDER = """\nThe checks run in the order 9, 1, 2, 3, 4, 5, 6; the first that applies answers, and 0 is the last.
+`tools/desk explain 6` says more of number 6."""
+UNCHANGED = "No output, length 0. The room of a call from C is unchanged, every byte of it."
+
+NUMBERS = {
+    0: Number(
+        "done",
+        "Every check passed. Sealed: the output is the sealed run, one block longer than the body. Opened: the output is "
+        "the body, the only one that seals to this run under this scheme, key, nonce and header.",
+        "Sealed: keep scheme, nonce and header with the run, for an open needs them to the bit; never use the nonce "
+        "again under this key. Opened: read the body in the step that the header names.",
+        "The output in hex; '-' where it is empty, as for an empty body opened. In the room of a call from C it stands "
+        "at the front, and the rest is unchanged.",
+    ),
+    1: Number(
+        "no such scheme",
+        "The scheme is none of 1, 2 and 3. Nothing else was looked at.",
+        "1 is PAEF over ForkSkinny-64-192, 2 is PAEF over ForkSkinny-128-256, 3 is SAEF over ForkSkinny-128-256. Look "
+        "up under which one the record was sealed; there is none by default.",
+        UNCHANGED,
+    ),
+    2: Number(
+        "key or nonce of a wrong length",
+        "A key has 16 bytes under every scheme; a nonce has 6 under scheme 1, 14 under scheme 2, 15 under scheme 3.",
+        "Count the bytes, two hex digits each. A nonce that would fit another scheme may mean that the scheme is the "
+        "wrong one. Neither is to be cut or padded to fit.",
+        UNCHANGED,
+    ),
+    3: Number(
+        "header or body too long",
+        "Each has 8,191 blocks at most: 65,528 bytes under scheme 1, 131,056 under schemes 2 and 3. The body of a "
+        "sealed run is the run less one block.",
+        "Part the record into several, each with a nonce of its own. Only a call from C gets this number: a job ends "
+        "at 16,384 bytes, and a longer one is 9.",
+        UNCHANGED,
+    ),
+    4: Number(
+        "sealed run shorter than a block",
+        "Only open: a sealed run has one block at least, 8 bytes under scheme 1, 16 under schemes 2 and 3, also if its "
+        "body is empty.",
+        "See whether the run was cut on its way, or a body given in its place, or a run of scheme 1 under another "
+        "scheme.",
+        UNCHANGED,
+    ),
+    5: Number(
+        "room shorter than the output",
+        "Only a call from C gets this number; the room that sealjob lends is always large enough.",
+        "To seal, lend the body's length and one block more; to open, the run's length less one block.",
+        UNCHANGED,
+    ),
+    6: Number(
+        "not authentic",
+        "Only open: no body seals to this run under this scheme, key, nonce and header. Whether the tag or the padding "
+        "failed is not told.",
+        "First the header, each byte and its length: fifteen bytes, and the same with 80 added, pad to the same block "
+        "and are still two headers. Then nonce, key and scheme; then whether the run came unchanged. No limit is to be "
+        "read from a run that answered 6.",
+        "No output, length 0. The room of a call from C has as many zero bytes at its front as the body would have "
+        "taken, and the rest is unchanged.",
+    ),
+    9: Number(
+        "not a job",
+        "Only sealjob: its input has more than 16,384 bytes, is cut short, has bytes left over, or a direction other "
+        "than 0 (seal) and 1 (open). Nothing of it was looked at further.",
+        "A sheet, and the desk's seal and open, can only be too long: ten bytes and the four sections. In a raw job, "
+        "hold each two-byte count, high byte first, to the bytes that follow it.",
+        "No output, length 0. Nothing was sealed or opened.",
+    ),
+}
+
+
+def paragraph(label, text):
+    return textwrap.fill(text, 88, initial_indent=f"  {label:<13}", subsequent_indent=" " * 15)
+
+
+def explained(number):
+    entry = NUMBERS[number]
+    return "\n".join((
+        f"{number}  {entry.title}",
+        paragraph("It says", entry.says),
+        paragraph("Check next", entry.next),
+        paragraph("Left behind", entry.holds),
+    ))
+
+
+def listed():
+    lines = [f"{number}  {entry.title}" for number, entry in NUMBERS.items()]
+    return "\n".join(lines + [ORDER])
+
+
+def explain(text):
+    if text is None:
+        return listed()
+    numbers = [number for number in NUMBERS if str(number) == text]
+    if not numbers:
+        raise Trouble(f"{text[:40]!r} is no answer number; they are 0 to 6 and 9")
+    return explained(numbers[0])

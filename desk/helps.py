@@ -1,0 +1,85 @@
+"""What --help says. Its examples can be typed as they stand."""
+
+SCHEME = "1, 2 or 3; any other up to 255 is handed on and refused"
+OUT = "also write the output's bytes, only after answer 0; neither --job nor --out overwrites a file"
+
+JOB = """\
+values:
+  hex digits, two to a byte; spaces or colons may part bytes; '-' or '' for no bytes;
+  or @FILE for the bytes of a file
+
+exit status:
+  0  done            1  refused            2  bad input; one sentence on standard error says what
+"""
+
+ABOUT = """\
+Seals and opens records by hand with the proved program sealjob, runs job sheets, and says in
+words what an answer means. `tools/desk COMMAND --help` says more of a command.
+"""
+
+EXAMPLES = """\
+examples:
+  tools/desk run examples/jobs/*.sheet
+  tools/desk explain 6
+"""
+
+SEAL = """\
+Seals a body under a header. The output is the sealed run, one block longer than the body.
+A nonce must never be used twice under one key.
+"""
+
+SEAL_EXAMPLE = """
+example, three limits in half-decibel steps; the header's last byte, 80, names the step:
+  tools/desk seal --scheme 2 --key 5d1c8e40b729f36a910ec4783fd256ab \\
+      --nonce 2026:0301:0868:0000:0000:0000:0009 \\
+      --header '74 61 62 6c 65 20 38 36 38 4d 20 72 65 76 33 80' --body '24 28 2c'
+"""
+
+OPEN = """\
+Opens a sealed run: gives the body that seals to it under this scheme, key, nonce and header, and
+answers 6 if there is none. A header that pads to the same block is still another header.
+"""
+
+OPEN_EXAMPLE = """
+example:
+  tools/desk open --scheme 2 --key 5d1c8e40b729f36a910ec4783fd256ab \\
+      --nonce 2026:0301:0868:0000:0000:0000:0009 \\
+      --header '74 61 62 6c 65 20 38 36 38 4d 20 72 65 76 33 80' \\
+      --sealed 4dd9dc0c2b624c9aa41ffad90ad803f8d9e3f0
+"""
+
+RUN = """\
+Runs job sheets, and raw jobs: files whose name ends in .job, as --job writes them. All are read
+before the first is run. It shows each one's story, the line that sealjob printed and its meaning.
+"""
+
+SHEET = """\
+a sheet has one word and its value to a line; unknown and repeated words are refused:
+  # ..        a comment; those at the top are the story, which is shown
+  scheme 2    a number from 0 to 255
+  seal        or open; alone on its line
+  key ..      values as for seal: hex digits, '-', or @FILE, counted from the sheet's folder
+  nonce ..
+  header ..   empty if left out
+  body ..     to seal; to open it is: sealed ..
+  expect 0    if given: the answer number that is right
+  output ..   if given, with expect 0: the output that is right
+
+exit status:
+  0  every answer is the one that its sheet expects, or 0 where it expects none
+  1  some answer is not
+  2  bad input, and nothing was run; or sealjob gave no answer
+
+example:
+  tools/desk run examples/jobs/*.sheet
+"""
+
+EXPLAIN = """\
+Says what an answer number means, what to check next, and what is left behind. Without a number
+it lists them all. The numbers are 0 to 6 and 9.
+"""
+
+EXPLAIN_EXAMPLE = """\
+example:
+  tools/desk explain 6
+"""

@@ -1,0 +1,46 @@
+"""Values as a person writes them: numbers, hex digits, or a file's bytes."""
+import os
+import re
+
+from files import read_file
+from trouble import Trouble
+
+MOST = 65535  # what a section's two-byte count can say
+DIGITS = frozenset("0123456789abcdefABCDEF")
+
+
+def number_of(text, most):
+    if not re.fullmatch("[0-9]{1,9}", text) or int(text) > most:
+        raise Trouble(f"{text[:40]!r} is not a number from 0 to {most}")
+    return int(text)
+
+
+def group_bytes(group, place):
+    for at, digit in enumerate(group):
+        if digit not in DIGITS:
+            raise Trouble(f"{digit!r}, character {place + at} of the value, is no hex digit")
+    if len(group) % 2:
+        raise Trouble(f"{len(group)} hex digits from character {place} on, an odd number; two make a byte")
+    return bytes.fromhex(group)
+
+
+def hex_bytes(text):
+    """Spaces and colons part whole bytes. So `1 2` is refused, and not read as the one byte 12."""
+    if text.strip() in ("", "-"):
+        return b""
+    groups = list(re.finditer(r"[^\s:]+", text, re.ASCII))
+    if not groups:
+        raise Trouble("no hex digits; '-' stands for no bytes")
+    return b"".join(group_bytes(group.group(), group.start() + 1) for group in groups)
+
+
+def bytes_of(text, folder=""):
+    """@FILE is a file's bytes; its name counts from the folder."""
+    if text == "@":
+        raise Trouble("'@' without the name of a file")
+    if text.startswith("@"):
+        return read_file(os.path.join(folder, text[1:]), MOST)
+    data = hex_bytes(text)
+    if len(data) > MOST:
+        raise Trouble(f"{len(data):,} bytes; a section of a job has {MOST:,} at most")
+    return data

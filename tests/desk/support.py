@@ -1,0 +1,85 @@
+"""What the desk's tests have in common: the desk as a person starts it, programs in sealjob's place, a folder that goes away."""
+import os
+import shlex
+import shutil
+import subprocess
+import sys
+import tempfile
+import unittest
+
+# Nothing is left beside the sources.
+sys.dont_write_bytecode = True
+ROOT = os.path.dirname(os.path.dirname(os.path.dirname(os.path.abspath(__file__))))
+sys.path.insert(0, os.path.join(ROOT, "desk"))
+
+import sealjob
+
+KEY = "5d1c8e40b729f36a910ec4783fd256ab"
+NONCE = "2026030108680000000000000001"
+HEADER = "7461626c65203836384d207265763380"
+BODY = "24282c1e2420"
+# The second program's, as all outputs in examples/jobs.
+SEALED = "8fc6325ceecadb1b9feb28f419c730a06b148d5a5753"
+SEAL = ["seal", "--scheme", "2", "--key", KEY, "--nonce", NONCE, "--header", HEADER, "--body", BODY]
+OPEN = ["open", "--scheme", "2", "--key", KEY, "--nonce", NONCE, "--header", HEADER, "--sealed", SEALED]
+JOB = bytes.fromhex("0200" + "0010" + KEY + "000e" + NONCE + "0010" + HEADER + "0006" + BODY)
+SHEET = f"# A story.\nscheme 2\nseal\nkey {KEY}\nnonce {NONCE}\nheader {HEADER}\nbody {BODY}\n"
+
+
+def whole(word):
+    """The tests work in folders of their own, where a relative name would mean another file."""
+    return os.path.abspath(word) if os.path.exists(word) else word
+
+
+PROGRAM = shlex.join(whole(word) for word in sealjob.command())
+
+
+def replaced(words, option, value):
+    """The words with another value behind an option; without the option where the value is None."""
+    at = words.index(option)
+    return words[:at] + ([] if value is None else [option, value]) + words[at + 2:]
+
+
+class DeskTest(unittest.TestCase):
+    def setUp(self):
+        self.folder = tempfile.mkdtemp()
+        self.addCleanup(shutil.rmtree, self.folder)
+
+    def path(self, name):
+        return os.path.join(self.folder, name)
+
+    def write(self, name, data):
+        with open(self.path(name), "wb") as file:
+            file.write(data.encode() if isinstance(data, str) else data)
+        return name
+
+    def read(self, name):
+        with open(self.path(name), "rb") as file:
+            return file.read()
+
+    def stand_in(self, script):
+        """The command of a shell script in sealjob's place."""
+        self.write("stand-in", script)
+        return shlex.join(["sh", self.path("stand-in")])
+
+    def desk(self, *words, program=PROGRAM):
+        """The desk, started in the test's folder."""
+        return subprocess.run(
+            [sys.executable, "-B", os.path.join(ROOT, "desk"), *words], cwd=self.folder, timeout=100,
+            env={**os.environ, "SEALJOB": program}, stdout=subprocess.PIPE, stderr=subprocess.PIPE, text=True,
+        )
+
+    def done(self, *words, status=0, program=PROGRAM):
+        """What the desk prints when it has nothing to complain of."""
+        ended = self.desk(*words, program=program)
+        self.assertEqual((ended.stderr, ended.returncode), ("", status), ended.stdout)
+        return ended.stdout
+
+    def complains(self, sentence, *words, program="false"):
+        """Status 2, one sentence and nothing else; `false` in sealjob's place would be complained of otherwise."""
+        ended = self.desk(*words, program=program)
+        self.assertEqual(ended.returncode, 2, ended)
+        self.assertEqual(ended.stderr.count("\n"), 1, ended.stderr)
+        self.assertTrue(ended.stderr.startswith("desk: "), ended.stderr)
+        self.assertIn(sentence, ended.stderr)
+        return ended.stdout

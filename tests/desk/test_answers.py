@@ -1,0 +1,60 @@
+"""Answers in words, and the line of sealjob's, which is taken only if it is just as documented."""
+import support
+import sealjob
+from jobs import Job
+from trouble import Trouble
+from wording import meaning
+
+KEY, NONCE = bytes(16), bytes(14)
+
+
+def said(number, job, output=b""):
+    return meaning(job.laid_out(), job, sealjob.Answer(number, output, ""))
+
+
+class Meanings(support.DeskTest):
+    def test_done(self):
+        self.assertEqual(said(0, Job(2, 0, KEY, NONCE, b"", b"abc"), bytes(19)),
+                         "done: sealed, 19 bytes, one block more than the body's 3")
+        self.assertEqual(said(0, Job(2, 1, KEY, NONCE, b"", bytes(17)), b"a"), "done: authentic, a body of 1 byte")
+
+    def test_refused(self):
+        for number, job, words in (
+            (1, Job(7, 0, KEY, NONCE, b"", b""), "no such scheme: given 7; there are 1, 2 and 3"),
+            (2, Job(2, 0, KEY[1:], NONCE, b"", b""), "given a key of 15 bytes and a nonce of 14; scheme 2 wants 16 and 14"),
+            (2, Job(3, 0, KEY, NONCE, b"", b""), "given a key of 16 bytes and a nonce of 14; scheme 3 wants 16 and 15"),
+            (2, Job(1, 0, KEY, NONCE, b"", b""), "scheme 1 wants 16 and 6"),
+            (3, Job(1, 0, KEY, NONCE, bytes(65529), b""), "65,528 bytes at most, given a header of 65,529 bytes"),
+            (4, Job(1, 1, KEY, NONCE, b"", bytes(7)), "given 7 bytes, a block of scheme 1 has 8"),
+            (5, Job(2, 0, KEY, NONCE, b"", b""), "refused, room shorter than the output"),
+            (6, Job(2, 1, KEY, NONCE, b"", bytes(16)), "refused, not authentic: no byte of a body is given"),
+            (9, Job(2, 0, KEY, NONCE, b"", bytes(20000)), "not a job: it has 20,040 bytes, and 16,384 is the most"),
+        ):
+            with self.subTest(number=number):
+                self.assertIn(words, said(number, job))
+
+    def test_unfitting(self):
+        """What sealjob says is told, also where the desk can't see why."""
+        self.assertEqual(said(2, Job(9, 0, b"", b"", b"", b"")), "refused, key or nonce of a wrong length")
+        self.assertEqual(said(9, Job(2, 0, b"", b"", b"", b"")), "refused, not a job")
+
+
+class Lines(support.DeskTest):
+    def test_taken(self):
+        self.assertEqual(sealjob.answer_of(b"0 2 0aff\n"), (0, b"\x0a\xff", "0 2 0aff"))
+        self.assertEqual(sealjob.answer_of(b"0 0 -\n"), (0, b"", "0 0 -"))
+        for number in b"1234569":
+            self.assertEqual(sealjob.answer_of(b"%c 0 -\n" % number).number, number - 48)
+
+    def test_not_taken(self):
+        for printed in (b"", b"\n", b"0 2 0aff", b"0 2 0AFF\n", b"0 2 0aff\n\n", b"0 2 0aff\n0 2 0aff\n", b"0  2 0aff\n", b"7 0 -\n",
+                        b"8 0 -\n", b"10 0 -\n", b"0 02 0aff\n", b"0 1 0aff\n", b"0 2 -\n", b"0 0 \n", b"6 2 0aff\n", b"6 2 -\n",
+                        b"0 2 0af\n", b"0 2 0aff \n", b"0 2 0aff\r\n", b"\xff"):
+            with self.subTest(printed), self.assertRaises(Trouble):
+                sealjob.answer_of(printed)
+
+    def test_too_slow(self):
+        sealjob.SECONDS, before = 0.2, sealjob.SECONDS
+        self.addCleanup(setattr, sealjob, "SECONDS", before)
+        with self.assertRaisesRegex(Trouble, "no answer within"):
+            sealjob.answer_to(b"", ["sleep", "20"])

@@ -1,0 +1,58 @@
+"""explain and --help."""
+import re
+import shlex
+
+import support
+
+TITLES = {
+    0: "done", 1: "no such scheme", 2: "key or nonce of a wrong length", 3: "header or body too long",
+    4: "sealed run shorter than a block", 5: "room shorter than the output", 6: "not authentic", 9: "not a job",
+}
+
+
+class Explain(support.DeskTest):
+    def test_each(self):
+        for number, title in TITLES.items():
+            with self.subTest(number):
+                shown = self.done("explain", str(number), program="false")
+                self.assertTrue(shown.startswith(f"{number}  {title}\n"), shown)
+                for label in ("It says", "Check next", "Left behind"):
+                    self.assertRegex(shown, f"\n  {label}  +[A-Z0-9]")
+
+    def test_what_the_room_holds(self):
+        for number in (1, 2, 3, 4, 5):
+            self.assertIn("is unchanged, every", self.done("explain", str(number), program="false"))
+        self.assertIn("as many zero bytes at its front", " ".join(self.done("explain", "6", program="false").split()))
+
+    def test_all(self):
+        shown = self.done("explain", program="false")
+        for number, title in TITLES.items():
+            self.assertIn(f"{number}  {title}\n", shown)
+
+    def test_no_number(self):
+        for text in ("7", "8", "06", "six", "", "-"):
+            with self.subTest(text):
+                self.complains("is no answer number; they are 0 to 6 and 9", "explain", text)
+
+
+class Help(support.DeskTest):
+    def examples(self, *words):
+        text = self.done(*words, "--help", program="false")
+        self.assertIn("example", text)
+        return [shlex.split(line)[1:] for line in re.findall("^  tools/desk .*", text.replace("\\\n", ""), re.M)]
+
+    def test_examples_run(self):
+        """What --help shows can be typed as it stands."""
+        (seal,), (opening,) = self.examples("seal"), self.examples("open")
+        sealed = self.done(*seal).split()[3]
+        self.assertEqual(opening[-1], sealed)
+        self.assertIn("body     24282c\n", self.done(*opening))
+        (explain,) = self.examples("explain")
+        self.done(*explain, program="false")
+        self.assertEqual(self.examples("run"), [["run", "examples/jobs/*.sheet"]])
+        self.assertEqual(self.examples()[:1], self.examples("run"))
+
+    def test_alone(self):
+        ended = self.desk(program="false")
+        self.assertEqual((ended.returncode, ended.stdout), (2, ""))
+        self.assertEqual(ended.stderr, self.done("--help", program="false"))

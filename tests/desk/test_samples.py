@@ -1,0 +1,50 @@
+"""The sample sheets: all as expected by sealjob, and among them the accident in all its ways. Their outputs are the second program's."""
+import glob
+import os
+
+import support
+from jobs import OPEN, SEAL
+from sheets import read_sheet
+
+NAMES = sorted(glob.glob(os.path.join(support.ROOT, "examples", "jobs", "*.sheet")))
+
+
+class Samples(support.DeskTest):
+    @classmethod
+    def setUpClass(cls):
+        cls.sheets = [read_sheet(name) for name in NAMES]
+
+    def test_as_expected(self):
+        shown = self.done("run", *NAMES)
+        self.assertTrue(shown.endswith(f"\n{len(NAMES)} jobs: {len(NAMES)} as expected.\n"))
+
+    def test_complete(self):
+        for name, sheet in zip(NAMES, self.sheets):
+            with self.subTest(name):
+                self.assertTrue(sheet.story)
+                self.assertIsNotNone(sheet.expect)
+                self.assertEqual(sheet.output is not None, sheet.expect == 0)
+
+    def test_numbers(self):
+        self.assertEqual({sheet.expect for sheet in self.sheets}, {0, 1, 2, 4, 6})
+
+    def opened(self, sealing, header):
+        """The answers that sheets expect to a sealing's run under a header."""
+        key = (sealing.job.scheme, OPEN, sealing.job.key, sealing.job.nonce, header, sealing.output)
+        return [sheet.expect for sheet in self.sheets if sheet.job == key]
+
+    def test_the_accident(self):
+        """Fifteen bytes and the same with 80 added: each run opens under its own and is refused under the other."""
+        for scheme, lengths in ((1, {16}), (2, {15, 16}), (3, {16})):
+            sealings = [s for s in self.sheets if s.job.direction == SEAL and s.job.scheme == scheme and s.output and s.job.body]
+            self.assertEqual({len(s.job.header) for s in sealings}, lengths)
+            for sealing in sealings:
+                own = sealing.job.header
+                other = own[:15] if len(own) == 16 else own + b"\x80"
+                self.assertEqual(other[:15] + b"\x80", own[:15] + b"\x80")
+                self.assertEqual(self.opened(sealing, other), [6])
+                self.assertEqual(self.opened(sealing, own), [0] if scheme == 2 else [])
+
+    def test_no_nonce_twice(self):
+        used = [(s.job.key, s.job.nonce) for s in self.sheets if s.job.direction == SEAL]
+        self.assertEqual(len(used), len(set(used)))

@@ -1,0 +1,78 @@
+"""The sheet parser: what it takes, and each refusal with its line."""
+import support
+from jobs import Job
+from sheets import read_sheet, sheet_of
+from support import SHEET
+from trouble import Trouble
+
+SMALL = "scheme 1\nopen\nkey 01\nnonce 02\n"
+
+
+class Sheets(support.DeskTest):
+    def test_whole(self):
+        sheet = sheet_of("s", "# One.\n#Two.\n\n" + SMALL + "# not shown\nheader 03:04\nsealed 05 06\nexpect 0\noutput 07\n")
+        self.assertEqual(sheet.story, ["One.", "Two."])
+        self.assertEqual(sheet.job, Job(1, 1, b"\1", b"\2", b"\3\4", b"\5\6"))
+        self.assertEqual((sheet.expect, sheet.output), (0, b"\7"))
+
+    def test_left_out(self):
+        sheet = sheet_of("s", SMALL)
+        self.assertEqual(sheet, ([], Job(1, 1, b"\1", b"\2", b"", b""), None, None))
+
+    def test_any_order_and_line_ends(self):
+        sheet = sheet_of("s", "nonce -\r\n  key\t-  \r\nseal\r\nbody 24\r\nscheme 255\r\nexpect 9")
+        self.assertEqual(sheet, ([], Job(255, 0, b"", b"", b"", b"\x24"), 9, None))
+
+    def refuses(self, sentence, text):
+        with self.subTest(text[-30:]), self.assertRaises(Trouble) as caught:
+            sheet_of("a.sheet", text)
+        self.assertIn(sentence, str(caught.exception))
+
+    def test_words(self):
+        self.refuses("a.sheet, line 5: 'keys' is not a word of a sheet; they are scheme, seal", SMALL + "keys 01")
+        self.refuses("a.sheet, line 5: 'Key' is not a word", SMALL + "Key 01")
+        self.refuses("a.sheet, line 6: a second 'key'", SMALL + "\nkey 01")
+        self.refuses("a.sheet, line 5: a second 'open'", SMALL + "open")
+        self.refuses("a.sheet, line 5: a sheet is either 'seal' or 'open'", SMALL + "seal")
+        self.refuses("a.sheet, line 5: 'seal' stands alone", SMALL + "seal 1")
+        self.refuses("a.sheet, line 5: 'header' has no value", SMALL + "header ")
+
+    def test_missing(self):
+        for word in ("scheme 1", "key 01", "nonce 02"):
+            self.refuses(f"a.sheet: no line '{word.split()[0]}'", SMALL.replace(word, ""))
+        self.refuses("a.sheet: neither a line 'seal' nor a line 'open'", SMALL.replace("open", ""))
+        self.refuses("a.sheet: neither", "")
+
+    def test_values(self):
+        self.refuses("a.sheet, line 5: header: 'z', character 3 of the value", SMALL + "header abz")
+        self.refuses("a.sheet, line 5: header: 1 hex digits", SMALL + "header a")
+        self.refuses("a.sheet, line 5: header: '#', character 4", SMALL + "header ab # no comment here")
+        self.refuses("a.sheet, line 1: scheme: '256' is not a number", SMALL.replace("scheme 1", "scheme 256"))
+        self.refuses("a.sheet, line 5: header: nosuch can't be read", SMALL + "header @nosuch")
+
+    def test_last_section(self):
+        self.refuses("a.sheet, line 5: body: a sheet with 'open' has 'sealed' in its place", SMALL + "body 01")
+        self.refuses("a.sheet, line 5: sealed: a sheet with 'seal' has 'body'", SMALL.replace("open", "seal") + "sealed 01")
+
+    def test_expected(self):
+        self.refuses("a.sheet, line 5: expect: 7 is no answer number", SMALL + "expect 7")
+        self.refuses("a.sheet, line 5: expect: 'no' is not a number", SMALL + "expect no")
+        self.refuses("a.sheet, line 6: output: only with 'expect 0'", SMALL + "expect 6\noutput 01")
+        self.refuses("a.sheet, line 5: output: only with 'expect 0'", SMALL + "output 01")
+
+    def test_not_shown(self):
+        self.refuses("a.sheet, line 1: a character that can't be shown, '\\x1b'", "# \x1b[2J\n" + SMALL)
+
+    def test_file_beside_the_sheet(self):
+        self.write("header.bin", b"\x80")
+        self.write("a.sheet", SMALL + "header @header.bin\n")
+        self.assertEqual(read_sheet(self.path("a.sheet")).job.header, b"\x80")
+
+    def test_files(self):
+        self.write("mark.sheet", b"\xef\xbb\xbf" + SHEET.encode())
+        self.assertEqual(read_sheet(self.path("mark.sheet")).story, ["A story."])
+        self.write("bytes.sheet", b"\xff\xfe")
+        self.write("long.sheet", b"#" * (4 * 1024 * 1024 + 1))
+        for name, sentence in (("bytes", "is not text in UTF-8"), ("long", "has more than"), ("none", "No such file")):
+            with self.subTest(name), self.assertRaisesRegex(Trouble, sentence):
+                read_sheet(self.path(name + ".sheet"))
