@@ -1,0 +1,32 @@
+/* What document 01 ("What a caller is told") says of a call of seal or open, worked out from scheme and sizes alone. */
+#ifndef FUZZ_TABLE_H
+#define FUZZ_TABLE_H
+
+#include "guarded.h"
+
+/* Under every scheme. */
+enum { KEY_SIZE = 16 };
+
+struct scheme {
+    size_t block, nonce, limit;
+};
+
+/* NULL if there is no such scheme. */
+const struct scheme *scheme_of(uint32_t number);
+
+struct field {
+    size_t size;
+    uint8_t bytes[LONGEST];
+};
+
+/* What seal or open is given, but for the room. The text is the body or the sealed run. */
+struct record {
+    uint32_t scheme;
+    struct field key, nonce, header, text;
+};
+
+/* The number that is due, with a room of so many bytes. */
+uint32_t due_of_seal(const struct record *r, size_t room);
+uint32_t due_of_open(const struct record *r, size_t room, int authentic);
+
+#endif
