@@ -142,13 +142,13 @@ fn unmasked(s: State, p: Pair) -> Pair
 fn moved(s: State, p: Pair) -> Step
     ensures { λ r. ⌜ (r ≡ movedOf s p) × (length (r .out) ≡ 16) ⌝ }
 {
-    let delta = s.mask;
-    let first = p.first;
-    let second = p.second;
+    let u = unmasked(s, p);
+    let out = u.first;
+    let mask = u.second;
     Step {
-        out: xored(first, delta),
+        out,
         next: State {
-            mask: second,
+            mask,
             number: s.number,
             first: false,
         },
