@@ -12,6 +12,7 @@ use Rattle.sealing.specs.Schemes.{schemeOf}
 use Rattle.sealing.specs.Checks.{checkOf}
 use Rattle.sealing.specs.Calls.{Told, told, refused, sealUnder, sealOf, openOf}
 use Rattle.sealing.proofs.Ways.{seal-ways, open-ways, told-same}
+use Rattle.lines.specs.Line.{Puts}
 use Rattle.job.specs.Job.{Job, written, isSound, jobOf, directed, printed}
 use Rattle.job.proofs.Enough.{enough}
 use Rattle.job.proofs.Reading.{unsound}
@@ -80,8 +81,7 @@ pub same-run : (job room : List ℕ) (a b : Answer) (r q : List ℕ) → told a 
 same-run job room a b r q = told-same a b r q (jobOf job room)
 
 pub same-answer : (job room text : List ℕ) (k l : ℕ) (t u : List ℕ)
-    → (k ≡ length (printed job room)) × (t ≡ printed job room ++ drop k text)
-    → (l ≡ length (printed job room)) × (u ≡ printed job room ++ drop l text) → (k ≡ l) × (t ≡ u)
+    → Puts (printed job room) k text t → Puts (printed job room) l text u → (k ≡ l) × (t ≡ u)
 same-answer job room text k l t u (a, p) (b, q) =
     let e = a ∙ sym b in
     (e, p ∙ ap (λ (n : ℕ). printed job room ++ drop n text) e ∙ sym q)

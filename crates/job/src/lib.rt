@@ -9,9 +9,8 @@ use sections::behind;
 use sections::four;
 use sections::section;
 ghost use mathlib.Core.Path.{_≡_};
-ghost use mathlib.Core.List.{_++_};
-ghost use lib.ListN.{length, drop};
 ghost use Rattle.io.specs.Counts.{Counts};
+ghost use Rattle.lines.specs.Line.{Puts};
 ghost use Rattle.sealing.specs.Calls.{told};
 ghost use Rattle.job.specs.Job.{isSound, jobOf, printed};
 
@@ -60,7 +59,7 @@ pub fn run(job: &[u8], room: &mut [u8]) -> Answer
 // Runs a job and lays its line down at the front of the text; answers how long the line is.
 pub fn answer(job: &[u8], room: &mut [u8; 16384], text: &mut [u8; 32832]) -> usize
     ensures { λ r. ⌜ Counts r (now (text .exit)) ⌝ }
-    ensures { λ r. ⌜ (r ≡ length (printed (now (job .entry)) (now (room .entry)))) × (now (text .exit) ≡ printed (now (job .entry)) (now (room .entry)) ++ drop r (now (text .entry))) ⌝ }
+    ensures { λ r. ⌜ Puts (printed (now (job .entry)) (now (room .entry))) r (now (text .entry)) (now (text .exit)) ⌝ }
 {
     let a = run(job, room);
     let output = view(a.number, a.length, room);

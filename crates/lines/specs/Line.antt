@@ -3,7 +3,9 @@
 use Prim.Native.Nat.{ℕ, zero, suc, _/_, _%_}
 use mathlib.Core.Bool.{cond}
 use mathlib.Core.List.{List, [], _∷_, _++_}
+use mathlib.Core.Path.{_≡_}
 use lib.Dec.{ltb}
+use lib.ListN.{length, drop}
 use Rattle.io.specs.Digits.{glyph}
 
 -- a number of at most k digits in decimal, with no zeros in front
@@ -31,3 +33,7 @@ outputOf (b ∷ bs) = hexOf (b ∷ bs) ++ (10 ∷ [])
 
 abbrev pub lineOf : ℕ → ℕ → List ℕ → List ℕ
 lineOf number l output = (fieldOf number ++ fieldOf l) ++ outputOf output
+
+-- what is said stands at the front of a text, r bytes of it, and the rest is as it was
+abbrev pub Puts : List ℕ → ℕ → List ℕ → List ℕ → Type 0
+Puts said r old new = (r ≡ length said) × (new ≡ said ++ drop r old)

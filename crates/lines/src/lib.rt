@@ -1,11 +1,10 @@
 // The line that an answer is printed as, laid down in a text from its front on.
 ghost use Prim.Native.Nat.{_+_, _≤_, _<_};
 ghost use mathlib.Core.Path.{_≡_};
-ghost use mathlib.Core.List.{_++_};
-ghost use lib.ListN.{length, drop};
+ghost use lib.ListN.{length};
 ghost use Rattle.io.specs.Counts.{Counts};
 ghost use Rattle.io.specs.Digits.{glyph};
-ghost use Rattle.lines.specs.Line.{fieldOf, outputOf, lineOf};
+ghost use Rattle.lines.specs.Line.{fieldOf, outputOf, lineOf, Puts};
 
 // The ASCII code of a digit below 16.
 fn digit(d: u8) -> u8
@@ -18,7 +17,7 @@ fn digit(d: u8) -> u8
 // A number in decimal and a space, at the front of the text; answers how many bytes these are.
 fn field(n: u64, text: &mut [u8]) -> usize
     requires { ⌜ 21 ≤ length (now text) ⌝ }
-    ensures { λ r. ⌜ (r ≤ 21) × ((r ≡ length (fieldOf n)) × (now (text .exit) ≡ fieldOf n ++ drop r (now (text .entry)))) ⌝ }
+    ensures { λ r. ⌜ (r ≤ 21) × Puts (fieldOf n) r (now (text .entry)) (now (text .exit)) ⌝ }
 {
     let mut digits = [0u8; 20];
     let k = io::decimal(n, &mut digits);
@@ -34,7 +33,7 @@ fn field(n: u64, text: &mut [u8]) -> usize
 // Bytes in hex, or '-' where there are none, and the line's end.
 fn output(bytes: &[u8], text: &mut [u8]) -> usize
     requires { ⌜ length (now bytes) + length (now bytes) + 2 ≤ length (now text) ⌝ }
-    ensures { λ r. ⌜ (r ≤ length (now (bytes .entry)) + length (now (bytes .entry)) + 2) × ((r ≡ length (outputOf (now (bytes .entry)))) × (now (text .exit) ≡ outputOf (now (bytes .entry)) ++ drop r (now (text .entry)))) ⌝ }
+    ensures { λ r. ⌜ (r ≤ length (now (bytes .entry)) + length (now (bytes .entry)) + 2) × Puts (outputOf (now (bytes .entry))) r (now (text .entry)) (now (text .exit)) ⌝ }
 {
     let n = bytes.len();
     if n == 0 {
@@ -59,7 +58,7 @@ fn output(bytes: &[u8], text: &mut [u8]) -> usize
 pub fn line(number: u32, size: usize, bytes: &[u8], text: &mut [u8]) -> usize
     requires { ⌜ length (now bytes) + length (now bytes) + 64 ≤ length (now text) ⌝ }
     ensures { λ r. ⌜ Counts r (now (text .exit)) ⌝ }
-    ensures { λ r. ⌜ (r ≡ length (lineOf number size (now (bytes .entry)))) × (now (text .exit) ≡ lineOf number size (now (bytes .entry)) ++ drop r (now (text .entry))) ⌝ }
+    ensures { λ r. ⌜ Puts (lineOf number size (now (bytes .entry))) r (now (text .entry)) (now (text .exit)) ⌝ }
 {
     let a = field(number as u64, text);
     let b = field(size as u64, &mut text[a..]);

@@ -1,6 +1,6 @@
--- What the modes have in common (001, figures 5 and 8, whose lines are cited in this order; the modes of 000 fit too). A header is walked block by block. Each block
--- of a body but the last is sealed to a block; the last one, padded, to a block and as many leading bytes of a second block as it
--- had bytes itself. An empty body is sealed to one block. Assumes nothing.
+-- What the modes have in common (001, figures 5 and 8, whose lines are cited in this order; the modes of 000 fit too). A header is walked
+-- block by block. Each block of a body but the last is sealed to a block; the last one, padded, to a block and as many leading bytes of a
+-- second block as it had bytes itself. An empty body is sealed to one block. Assumes nothing.
 use Prim.Native.Nat.{ℕ, zero, suc, _-_}
 use mathlib.Core.Bool.{Bool, true, false, not, _&&_, cond}
 use mathlib.Core.List.{List, [], _++_}

@@ -13,43 +13,87 @@ returns : tie.Need-returns
 returns c = unsound (c .before .before .before .before .args .job .now) _ (c .before .sound .ensures) (c .if1 .taken)
 
 shared-slice-read-scheme : tie.Need-shared-slice-read-scheme
-shared-slice-read-scheme c = omega (arith, front (c .before .before .before .before .before .args .job .now) (c .before .before .sound .ensures) (c .before .if1 .left))
+shared-slice-read-scheme c =
+    let judged = c .before in
+    let start = judged .before .before .before .before in
+    omega (arith, front (start .args .job .now) (judged .before .sound .ensures) (judged .if1 .left))
 
 shared-slice-read-direction : tie.Need-shared-slice-read-direction
-shared-slice-read-direction c = omega (arith, front (c .before .before .before .before .before .before .args .job .now) (c .before .before .before .sound .ensures) (c .before .before .if1 .left))
+shared-slice-read-direction c =
+    let judged = c .before .before in
+    let start = judged .before .before .before .before in
+    omega (arith, front (start .args .job .now) (judged .before .sound .ensures) (judged .if1 .left))
 
 sub-from-key : tie.Need-sub-from-key
-sub-from-key c = omega (arith, front (c .before .before .before .before .before .before .args .job .now) (c .before .before .before .sound .ensures) (c .before .before .if1 .left))
+sub-from-key c =
+    let judged = c .before .before in
+    let start = judged .before .before .before .before in
+    omega (arith, front (start .args .job .now) (judged .before .sound .ensures) (judged .if1 .left))
 
 part-from-key-start : tie.Need-part-from-key-start
-part-from-key-start c = omega (arith, front (c .before .before .before .before .before .before .args .job .now) (c .before .before .before .sound .ensures) (c .before .before .if1 .left))
+part-from-key-start c =
+    let judged = c .before .before in
+    let start = judged .before .before .before .before in
+    omega (arith, front (start .args .job .now) (judged .before .sound .ensures) (judged .if1 .left))
 
 part-from-key-end : tie.Need-part-from-key-end
 part-from-key-end c = search needs
 
 behind-requires : tie.Need-behind-requires
-behind-requires c κs = key-whole (c .before .before .before .before .before .before .before .args .job .now) (c .before .before .before .before .sound .ensures) (c .before .before .before .if1 .left)
+behind-requires c κs =
+    let judged = c .before .before .before in
+    let start = judged .before .before .before .before in
+    key-whole (start .args .job .now) (judged .before .sound .ensures) (judged .if1 .left)
 
 behind-requires-2 : tie.Need-behind-requires-2
-behind-requires-2 c κs = nonce-whole (c .before .before .before .before .before .before .before .before .args .job .now) (c .before .before .before .before .before .sound .ensures) (c .before .before .before .before .if1 .left) (c .behind .ensures)
+behind-requires-2 c κs =
+    let judged = c .before .before .before .before in
+    let start = judged .before .before .before .before in
+    nonce-whole (start .args .job .now) (judged .before .sound .ensures) (judged .if1 .left) (c .behind .ensures)
 
 behind-requires-3 : tie.Need-behind-requires-3
-behind-requires-3 c κs = header-whole (c .before .before .before .before .before .before .before .before .before .args .job .now) (c .before .before .before .before .before .before .sound .ensures) (c .before .before .before .before .before .if1 .left) (c .before .behind .ensures) (c .behind2 .ensures)
+behind-requires-3 c κs =
+    let judged = c .before .before .before .before .before in
+    let start = judged .before .before .before .before in
+    header-whole (start .args .job .now) (judged .before .sound .ensures) (judged .if1 .left) (c .before .behind .ensures) (c .behind2 .ensures)
 
 section-requires : tie.Need-section-requires
-section-requires c κs = key-whole (c .before .before .before .before .before .before .before .before .before .before .args .job .now) (c .before .before .before .before .before .before .before .sound .ensures) (c .before .before .before .before .before .before .if1 .left)
+section-requires c κs =
+    let judged = c .before .before .before .before .before .before in
+    let start = judged .before .before .before .before in
+    key-whole (start .args .job .now) (judged .before .sound .ensures) (judged .if1 .left)
 
 section-requires-2 : tie.Need-section-requires-2
-section-requires-2 c κs = nonce-whole (c .before .before .before .before .before .before .before .before .before .before .before .args .job .now) (c .before .before .before .before .before .before .before .before .sound .ensures) (c .before .before .before .before .before .before .before .if1 .left) (c .before .before .before .behind .ensures)
+section-requires-2 c κs =
+    let at-body = c .before in
+    let at-header = at-body .before in
+    let at-nonce = at-header .before in
+    let judged = at-nonce .before .before .before .before in
+    let start = judged .before .before .before .before in
+    nonce-whole (start .args .job .now) (judged .before .sound .ensures) (judged .if1 .left) (at-nonce .behind .ensures)
 
 section-requires-3 : tie.Need-section-requires-3
-section-requires-3 c κs = header-whole (c .before .before .before .before .before .before .before .before .before .before .before .before .args .job .now) (c .before .before .before .before .before .before .before .before .before .sound .ensures) (c .before .before .before .before .before .before .before .before .if1 .left) (c .before .before .before .before .behind .ensures) (c .before .before .before .behind2 .ensures)
+section-requires-3 c κs =
+    let at-body = c .before .before in
+    let at-header = at-body .before in
+    let at-nonce = at-header .before in
+    let judged = at-nonce .before .before .before .before in
+    let start = judged .before .before .before .before in
+    header-whole (start .args .job .now) (judged .before .sound .ensures) (judged .if1 .left) (at-nonce .behind .ensures) (at-header .behind2 .ensures)
 
 section-requires-4 : tie.Need-section-requires-4
-section-requires-4 c κs = body-whole (c .before .before .before .before .before .before .before .before .before .before .before .before .before .args .job .now) (c .before .before .before .before .before .before .before .before .before .before .sound .ensures) (c .before .before .before .before .before .before .before .before .before .if1 .left) (c .before .before .before .before .before .behind .ensures) (c .before .before .before .before .behind2 .ensures) (c .before .before .before .behind3 .ensures)
+section-requires-4 c κs =
+    let at-body = c .before .before .before in
+    let at-header = at-body .before in
+    let at-nonce = at-header .before in
+    let judged = at-nonce .before .before .before .before in
+    let start = judged .before .before .before .before in
+    body-whole (start .args .job .now) (judged .before .sound .ensures) (judged .if1 .left) (at-nonce .behind .ensures) (at-header .behind2 .ensures) (at-body .behind3 .ensures)
 
 cast-seal : tie.Need-cast-seal
-cast-seal c = omega (arith, c .before .before .before .before .before .before .before .before .before .before .shared-slice-known2 .given 0)
+cast-seal c =
+    let known = c .before .before .before .before .before .before .before .before .before .before in
+    omega (arith, known .shared-slice-known2 .given 0)
 
 seal-requires : tie.Need-seal-requires
 seal-requires c κs = search needs
@@ -58,10 +102,25 @@ same-length : tie.Need-same-length
 same-length c = search needs
 
 returns-2 : tie.Need-returns-2
-returns-2 c = c .before .before .seal .ensures ∙ sealing (c .before .before .before .before .before .before .before .before .before .before .before .before .before .before .before .before .before .before .before .args .job .now) (c .before .before .before .before .before .before .before .before .before .before .before .before .before .before .before .before .sound .ensures) (c .before .before .before .before .before .before .before .before .before .before .before .before .before .before .before .if1 .left) (c .before .before .before .before .before .before .before .before .before .before .before .behind .ensures) (c .before .before .before .before .before .before .before .before .before .before .behind2 .ensures) (c .before .before .before .before .before .before .before .before .before .behind3 .ensures) (c .before .before .before .before .before .before .before .before .section .ensures) (c .before .before .before .before .before .before .before .section2 .ensures) (c .before .before .before .before .before .before .section3 .ensures) (c .before .before .before .before .before .section4 .ensures) _ (c .before .before .before .before .if2 .taken)
+returns-2 c =
+    let after-call = c .before .before in
+    let chosen = after-call .before .before in
+    let all = chosen .before in
+    let at-body = all .before .before .before .before in
+    let at-header = at-body .before in
+    let at-nonce = at-header .before in
+    let judged = at-nonce .before .before .before .before in
+    let start = judged .before .before .before .before in
+    after-call .seal .ensures
+    ∙ sealing (start .args .job .now) (judged .before .sound .ensures) (judged .if1 .left)
+    (at-nonce .behind .ensures) (at-header .behind2 .ensures) (at-body .behind3 .ensures)
+    (all .before .before .before .section .ensures) (all .before .before .section2 .ensures) (all .before .section3 .ensures) (all .section4 .ensures)
+    _ (chosen .if2 .taken)
 
 cast-open : tie.Need-cast-open
-cast-open c = omega (arith, c .before .before .before .before .before .before .before .before .before .before .shared-slice-known2 .given 0)
+cast-open c =
+    let known = c .before .before .before .before .before .before .before .before .before .before in
+    omega (arith, known .shared-slice-known2 .given 0)
 
 open-requires : tie.Need-open-requires
 open-requires c κs = search needs
@@ -70,7 +129,20 @@ same-length-2 : tie.Need-same-length-2
 same-length-2 c = search needs
 
 returns-3 : tie.Need-returns-3
-returns-3 c = c .before .before .open .ensures ∙ opening (c .before .before .before .before .before .before .before .before .before .before .before .before .before .before .before .before .before .before .before .args .job .now) (c .before .before .before .before .before .before .before .before .before .before .before .before .before .before .before .before .sound .ensures) (c .before .before .before .before .before .before .before .before .before .before .before .before .before .before .before .if1 .left) (c .before .before .before .before .before .before .before .before .before .before .before .behind .ensures) (c .before .before .before .before .before .before .before .before .before .before .behind2 .ensures) (c .before .before .before .before .before .before .before .before .before .behind3 .ensures) (c .before .before .before .before .before .before .before .before .section .ensures) (c .before .before .before .before .before .before .before .section2 .ensures) (c .before .before .before .before .before .before .section3 .ensures) (c .before .before .before .before .before .section4 .ensures) _ (c .before .before .before .before .if2 .left)
+returns-3 c =
+    let after-call = c .before .before in
+    let chosen = after-call .before .before in
+    let all = chosen .before in
+    let at-body = all .before .before .before .before in
+    let at-header = at-body .before in
+    let at-nonce = at-header .before in
+    let judged = at-nonce .before .before .before .before in
+    let start = judged .before .before .before .before in
+    after-call .open .ensures
+    ∙ opening (start .args .job .now) (judged .before .sound .ensures) (judged .if1 .left)
+    (at-nonce .behind .ensures) (at-header .behind2 .ensures) (at-body .behind3 .ensures)
+    (all .before .before .before .section .ensures) (all .before .before .section2 .ensures) (all .before .section3 .ensures) (all .section4 .ensures)
+    _ (chosen .if2 .left)
 
 pub run-spec : {M : Type 1} → statement M
 run-spec =
