@@ -1,11 +1,11 @@
 -- A room of 16,384 bytes is enough for every job, and no section of a job is above a scheme's limits: 3 and 5 are never answered.
 -- Assumes nothing.
-use mathlib.Core.Path.{_≡_, refl, sym, ap, _∙_}
+use mathlib.Core.Path.{_≡_, refl, _∙_}
 use mathlib.Core.Bool.{Bool, true, false, not, cond}
 use mathlib.Core.List.{List}
 use Prim.Native.Nat.{ℕ, zero, suc, _+_, _-_, _≤_}
 use native.Mathlib.Omega.{arith}
-use borrow.Author.Tests.{eqb-true, ltb-true, not-false}
+use borrow.Author.Tests.{eqb-true, eqb-false, ltb-true, not-false}
 use lib.Dec.{eqb, ltb}
 use lib.ListN.{length, drop, getD, length-drop}
 use Rattle.ciphers.specs.Ciphers.{blockOf}
@@ -15,9 +15,9 @@ use Rattle.sealing.specs.declared.schemes.Named.{Named}
 use Rattle.sealing.specs.declared.schemes.Named.the-variants.{Known, Unknown}
 use Rattle.sealing.specs.Schemes.{schemeOf}
 use Rattle.sealing.specs.Checks.{checkOf}
-use Rattle.sealing.specs.Calls.{Told, refused, passed, judged, done, forged, under, opened, sealUnder, openUnder, sealOf, openOf}
+use Rattle.sealing.specs.Calls.{Told, passed, judged, under, opened, sealUnder, openUnder, sealOf, openOf}
 use Rattle.sealing.proofs.Table.{each-named}
-use Rattle.job.specs.Sections.{sectionOf, behindOf}
+use Rattle.job.specs.Sections.{sectionOf}
 use Rattle.job.specs.Job.{isSound, jobOf, directed, fromKey, fromNonce, fromHeader, fromBody}
 use Rattle.job.proofs.Soundness.{Sound, sound, sound-front}
 use Rattle.job.proofs.Writing.{behind-length}
@@ -33,23 +33,8 @@ check-so : (b : Bool) (j k : ℕ) → (b ≡ true → Other j) → (b ≡ false 
 check-so true j k p q = p refl
 check-so false j k p q = q refl
 
-other-0 : Other 0
-other-0 = record { not-3 = λ e. omega arith; not-5 = λ e. omega arith }
-
-other-1 : Other 1
-other-1 = record { not-3 = λ e. omega arith; not-5 = λ e. omega arith }
-
-other-2 : Other 2
-other-2 = record { not-3 = λ e. omega arith; not-5 = λ e. omega arith }
-
-other-4 : Other 4
-other-4 = record { not-3 = λ e. omega arith; not-5 = λ e. omega arith }
-
-other-6 : Other 6
-other-6 = record { not-3 = λ e. omega arith; not-5 = λ e. omega arith }
-
-other-9 : Other 9
-other-9 = record { not-3 = λ e. omega arith; not-5 = λ e. omega arith }
+other : (k : ℕ) → eqb k 3 ≡ false → eqb k 5 ≡ false → Other k
+other k p q = record { not-3 = eqb-false k 3 p; not-5 = eqb-false k 5 q }
 
 -- a scheme's key has sixteen bytes, and its limits are above what a job can hold
 record Wide (s : Scheme) : Type 0 where
@@ -69,14 +54,14 @@ module _ (s : Scheme) (w : Wide s) (key nonce header body : ℕ) (short : Bool) 
       → Other (checkOf s key nonce header body short more room)
   unfolding checkOf
   checked h b r =
-      check-so (not (eqb key (s .key))) 2 _ (λ _. other-2) λ k.
-      check-so (not (eqb nonce (s .nonce))) 2 _ (λ _. other-2) λ _.
+      check-so (not (eqb key (s .key))) 2 _ (λ _. other 2 refl refl) λ k.
+      check-so (not (eqb nonce (s .nonce))) 2 _ (λ _. other 2 refl refl) λ _.
       check-so (ltb (s .header) header) 3 _ (λ e. absurd (omega (arith, ltb-true (s .header) header e, w .header))) λ _.
       check-so (ltb (s .body) body) 3 _ (λ e. absurd (omega (arith, ltb-true (s .body) body e, w .body))) λ _.
-      check-so short 4 _ (λ _. other-4) λ _.
+      check-so short 4 _ (λ _. other 4 refl refl) λ _.
       check-so (ltb room (body + more)) 5 0
       (λ e. absurd (omega (arith, ltb-true room (body + more) e, r (eqb-true key (s .key) (not-false _ k) ∙ w .key))))
-      (λ _. other-0)
+      (λ _. other 0 refl refl)
 
 -- ---- what is told
 
@@ -90,7 +75,7 @@ judged-so false t u p q = q
 
 under-so : (m : Named) (f : Scheme → Told) (room : List ℕ) → ((s : Scheme) → m ≡ Known s → Other (f s .number)) → Other (under m f room .number)
 under-so (Known s) f room p = p s refl
-under-so Unknown f room p = other-1
+under-so Unknown f room p = other 1 refl refl
 
 module _ (scheme : ℕ) (key nonce header body room : List ℕ) (h : length header ≤ 16384) (b : length body ≤ 16384) where
   -- a key of sixteen bytes leaves room for a block behind the body
@@ -101,7 +86,7 @@ module _ (scheme : ℕ) (key nonce header body room : List ℕ) (h : length head
         told-so _ _ room
         (checked s (wide scheme s e) (length key) (length nonce) (length header) (length body) false (blockOf (s .cipher)) (length room)
         h b (λ k. omega (arith, r k, block-most (s .cipher))))
-        other-0
+        (other 0 refl refl)
 
     pub open-so : Other (openOf scheme key nonce header body room .number)
     unfolding openOf openUnder
@@ -110,7 +95,7 @@ module _ (scheme : ℕ) (key nonce header body room : List ℕ) (h : length head
         (checked s (wide scheme s e) (length key) (length nonce) (length header) (length body - blockOf (s .cipher))
         (ltb (length body) (blockOf (s .cipher))) 0 (length room)
         h (omega arith) (λ k. omega (arith, r k)))
-        (judged-so (opened s key nonce header body .authentic) _ _ other-0 other-6)
+        (judged-so (opened s key nonce header body .authentic) _ _ (other 0 refl refl) (other 6 refl refl))
 
 -- ---- a job
 
@@ -141,4 +126,4 @@ enough job room l =
     (λ e.
     let a = all-of job (sound job e) in
     directed-so (getD job 1 0) (getD job 0 0) _ _ _ _ room (omega (arith, a)) (omega (arith, a)) (λ k. omega (arith, a, k)))
-    other-9
+    (other 9 refl refl)

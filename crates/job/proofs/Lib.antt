@@ -1,4 +1,5 @@
 pub mod Wholes
+pub mod Along
 pub mod Soundness
 pub mod Reading
 pub mod Writing

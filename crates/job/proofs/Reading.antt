@@ -9,7 +9,7 @@ use lib.ListN.{length, take, drop, getD}
 use Rattle.sealing.specs.Calls.{refused, sealOf, openOf}
 use Rattle.blocks.proofs.Parts.{part-rest}
 use Rattle.job.specs.Sections.{wholeAt, sectionOf, behindOf}
-use Rattle.job.specs.Job.{isSound, jobOf, directed, fromKey, fromNonce, fromHeader, fromBody}
+use Rattle.job.specs.Job.{isSound, jobOf, directed, fromNonce, fromHeader, fromBody}
 use Rattle.job.proofs.Soundness.{sound, sound-front}
 
 pub unsound : (job room : List ℕ) {r : Bool} → r ≡ isSound job → not r ≡ true → refused 9 room ≡ jobOf job room

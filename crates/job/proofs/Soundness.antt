@@ -1,6 +1,6 @@
 -- A sound job.
 --     sound       what it has: two bytes at its front, a direction, four whole sections and nothing behind
---     too-long, no-front, no-direction, as-four   what the code tests
+--     too-long, no-front, no-direction, as-sections   what the code tests
 -- Assumes nothing.
 use mathlib.Core.Path.{_≡_, refl, sym, ap, _∙_}
 use mathlib.Core.Bool.{Bool, true, false, not, cond, false≢true}
@@ -11,7 +11,7 @@ use borrow.Author.Tests.{ltb-false, lt-ltb, le-ltb, eqb-true}
 use lib.Dec.{ltb}
 use lib.ListN.{length, take, drop, getD, length-drop, drop-of-length-le}
 use Rattle.blocks.proofs.Parts.{part-rest}
-use Rattle.job.specs.Sections.{wholeAt, behindOf, sections}
+use Rattle.job.specs.Sections.{wholeAt, behindOf, sectionsOf}
 use Rattle.job.specs.Job.{isSound, fromKey, fromNonce, fromHeader, fromBody}
 use Rattle.job.proofs.Wholes.{whole-long, whole-short, cut, first}
 
@@ -29,7 +29,7 @@ past true c h = absurd (false≢true h)
 past false c h = (refl, h)
 
 pub sound : (job : List ℕ) → isSound job ≡ true → Sound job
-unfolding isSound sections
+unfolding isSound sectionsOf
 sound job h =
     let l = past (ltb 16384 (length job)) _ h in
     let d = past (ltb 1 (getD job 1 0)) _ (l .1) in
@@ -53,8 +53,8 @@ sound-front job w = omega (arith, whole-long (fromKey job) (w .key), length-drop
 
 -- ---- what the code tests, in its order
 
-nothing : (s : List ℕ) → s ≡ [] → sections 4 s ≡ false
-nothing s e = ap (sections 4) e ∙ sym (cut 3 [] (whole-short [] (omega arith)) refl)
+nothing : (s : List ℕ) → s ≡ [] → sectionsOf 4 s ≡ false
+nothing s e = ap (sectionsOf 4) e ∙ cut 3 [] (sym (whole-short [] (omega arith)))
 
 either : (b c : Bool) → c ≡ false → false ≡ cond b false c
 either true c e = refl
@@ -66,13 +66,13 @@ module _ (job : List ℕ) where
   too-long h = rw (lt-ltb 16384 (length job) h)
 
   pub no-front : length job ≤ 16384 → length job < 2 → false ≡ isSound job
-  unfolding isSound sections
-  no-front l h = rw (le-ltb 16384 (length job) l) (either (ltb 1 (getD job 1 0)) (sections 4 (fromKey job)) (nothing (fromKey job) (drop-of-length-le job {i = 2} (omega arith))))
+  unfolding isSound sectionsOf
+  no-front l h = rw (le-ltb 16384 (length job) l) (either (ltb 1 (getD job 1 0)) (sectionsOf 4 (fromKey job)) (nothing (fromKey job) (drop-of-length-le job {i = 2} (omega arith))))
 
   pub no-direction : length job ≤ 16384 → 1 < getD job 1 0 → false ≡ isSound job
   unfolding isSound
   no-direction l h = rw (le-ltb 16384 (length job) l, lt-ltb 1 (getD job 1 0) h)
 
-  pub as-four : {r : Bool} → length job ≤ 16384 → getD job 1 0 ≤ 1 → r ≡ sections 4 (take (length job - 2) (drop 2 job)) → r ≡ isSound job
+  pub as-sections : {r : Bool} → length job ≤ 16384 → getD job 1 0 ≤ 1 → r ≡ sectionsOf 4 (take (length job - 2) (drop 2 job)) → r ≡ isSound job
   unfolding isSound
-  as-four l h e = e ∙ ap (sections 4) (part-rest 2 job) ∙ rw (le-ltb 16384 (length job) l, le-ltb 1 (getD job 1 0) h)
+  as-sections l h e = e ∙ ap (sectionsOf 4) (part-rest 2 job) ∙ rw (le-ltb 16384 (length job) l, le-ltb 1 (getD job 1 0) h)

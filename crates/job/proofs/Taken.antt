@@ -7,7 +7,7 @@ use native.Mathlib.Omega.{arith}
 use borrow.Author.Tests.{le-ltb}
 use lib.ListN.{length, drop, getD}
 use Rattle.cells.specs.Cells.{Bytes}
-use Rattle.job.specs.Sections.{countOf, wholeAt, sectionOf, behindOf, sections}
+use Rattle.job.specs.Sections.{countOf, wholeAt, sectionOf, behindOf, sectionsOf}
 use Rattle.job.specs.Job.{Job, counted, written, isSound, jobOf, directed, fromKey, fromNonce, fromHeader, fromBody}
 use Rattle.modes.proofs.Bytes.{bytes-drop}
 use Rattle.job.proofs.Wholes.{more}
@@ -16,11 +16,11 @@ use Rattle.job.proofs.Writing.{counted-whole, counted-section, counted-
 
 -- ---- what was written is read
 
-counted-more : (k : ℕ) (x rest : List ℕ) → sections (suc k) (counted x ++ rest) ≡ sections k rest
-counted-more k x rest = more k (counted x ++ rest) (sym (counted-whole x rest)) refl (sym (counted-behind x rest))
+counted-more : (k : ℕ) (x rest : List ℕ) → sectionsOf (suc k) (counted x ++ rest) ≡ sectionsOf k rest
+counted-more k x rest = more k (counted x ++ rest) (counted-whole x rest) ∙ ap (sectionsOf k) (counted-behind x rest)
 
-no-more : sections 0 [] ≡ true
-unfolding sections
+no-more : sectionsOf 0 [] ≡ true
+unfolding sectionsOf
 no-more = refl
 
 module _ (scheme direction : ℕ) (key nonce header body : List ℕ) where
@@ -40,12 +40,12 @@ module _ (scheme direction : ℕ) (key nonce header body : List ℕ) where
   from-body : fromBody job ≡ last ++ []
   from-body = ap behindOf from-header ∙ counted-behind header last ∙ sym (append-nil last)
 
-  four : sections 4 (fromKey job) ≡ true
+  four : sectionsOf 4 (fromKey job) ≡ true
   four =
       counted-more 3 key (counted nonce ++ (counted header ++ last))
       ∙ counted-more 2 nonce (counted header ++ last)
       ∙ counted-more 1 header last
-      ∙ ap (sections 1) (sym (append-nil last))
+      ∙ ap (sectionsOf 1) (sym (append-nil last))
       ∙ counted-more 0 body []
       ∙ no-more
 

@@ -2,20 +2,19 @@
 --     whole-long     a whole section is its count and two bytes long, or longer
 --     whole-short, whole-count   what the code tests
 --     section-part, behind-part  what the code hands out
---     cut, more      sections in a row, by the first of them, as the code finds it
---     first          what sections in a row say of the first
+--     cut, more, first   sections in a row, by the first of them
 -- Assumes nothing.
 use mathlib.Core.Path.{_≡_, refl, sym, ap, _∙_}
-use mathlib.Core.Bool.{Bool, true, false, not, cond, false≢true}
+use mathlib.Core.Bool.{Bool, true, false, cond, false≢true}
 use mathlib.Core.List.{List}
 use Prim.Native.Nat.{ℕ, suc, _+_, _-_, _≤_, _<_}
 use native.Mathlib.Nat.{add-sub-cancel-left}
 use native.Mathlib.Omega.{arith}
-use borrow.Author.Tests.{leb-true, lt-leb, not-true, not-false}
+use borrow.Author.Tests.{leb-true, lt-leb}
 use lib.Dec.{leb}
 use lib.ListN.{length, take, drop}
 use Rattle.blocks.proofs.Parts.{part-rest}
-use Rattle.job.specs.Sections.{countOf, wholeAt, sectionOf, behindOf, sections}
+use Rattle.job.specs.Sections.{countOf, wholeAt, sectionOf, behindOf, sectionsOf}
 
 -- ---- one section
 
@@ -41,18 +40,18 @@ behind-part s {r} e = part-rest (2 + r) s ∙ ap (λ (k : ℕ). drop (2 + k) s) 
 
 -- ---- sections in a row
 
-pub cut : (k : ℕ) (s : List ℕ) {r : Bool} → r ≡ wholeAt s → not r ≡ true → false ≡ sections (suc k) s
-unfolding sections
-cut k s {r} e h = rw (sym e ∙ not-true r h)
+pub cut : (k : ℕ) (s : List ℕ) → wholeAt s ≡ false → sectionsOf (suc k) s ≡ false
+unfolding sectionsOf
+cut k s e = rw e
 
-pub more : (k : ℕ) (s : List ℕ) {r : Bool} {a : List ℕ} → r ≡ wholeAt s → not r ≡ false → a ≡ behindOf s → sections (suc k) s ≡ sections k a
-unfolding sections
-more k s {r} e h f = rw (sym e ∙ not-false r h, f)
+pub more : (k : ℕ) (s : List ℕ) → wholeAt s ≡ true → sectionsOf (suc k) s ≡ sectionsOf k (behindOf s)
+unfolding sectionsOf
+more k s e = rw e
 
 pub both : (b c : Bool) → cond b c false ≡ true → (b ≡ true) × (c ≡ true)
 both true c h = (refl, h)
 both false c h = absurd (false≢true h)
 
-pub first : (k : ℕ) (s : List ℕ) → sections (suc k) s ≡ true → (wholeAt s ≡ true) × (sections k (behindOf s) ≡ true)
-unfolding sections
-first k s h = both (wholeAt s) (sections k (behindOf s)) h
+pub first : (k : ℕ) (s : List ℕ) → sectionsOf (suc k) s ≡ true → (wholeAt s ≡ true) × (sectionsOf k (behindOf s) ≡ true)
+unfolding sectionsOf
+first k s h = both (wholeAt s) (sectionsOf k (behindOf s)) h

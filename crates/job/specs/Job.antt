@@ -8,7 +8,7 @@ use lib.ListN.{length, drop, getD}
 use Rattle.sealing.specs.Calls.{Told, refused, sealOf, openOf}
 use Rattle.sealing.specs.View.{viewOf}
 use Rattle.lines.specs.Line.{lineOf}
-use Rattle.job.specs.Sections.{sectionOf, behindOf, sections}
+use Rattle.job.specs.Sections.{sectionOf, behindOf, sectionsOf}
 
 -- ---- a job, written: scheme, direction, key, nonce, header, body
 
@@ -47,7 +47,7 @@ fromBody job = behindOf (fromHeader job)
 
 -- at most 16,384 bytes, direction 0 or 1, four sections in full and nothing left over
 unfoldable pub isSound : List ℕ → Bool
-isSound job = cond (ltb 16384 (length job)) false (cond (ltb 1 (getD job 1 0)) false (sections 4 (fromKey job)))
+isSound job = cond (ltb 16384 (length job)) false (cond (ltb 1 (getD job 1 0)) false (sectionsOf 4 (fromKey job)))
 
 -- 0 seals, 1 opens
 abbrev pub directed : ℕ → (scheme : ℕ) (key nonce header body room : List ℕ) → Told

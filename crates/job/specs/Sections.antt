@@ -23,6 +23,6 @@ behindOf s = drop (2 + countOf s) s
 -- ---- all of them
 
 -- k sections in full, and nothing left over
-unfoldable pub sections : ℕ → List ℕ → Bool
-sections zero s = eqb (length s) 0
-sections (suc k) s = cond (wholeAt s) (sections k (behindOf s)) false
+unfoldable pub sectionsOf : ℕ → List ℕ → Bool
+sectionsOf zero s = eqb (length s) 0
+sectionsOf (suc k) s = cond (wholeAt s) (sectionsOf k (behindOf s)) false

@@ -6,8 +6,8 @@ use sealing::open;
 use sealing::seal;
 use sealing::view;
 use sections::behind;
-use sections::four;
 use sections::section;
+use sections::sections;
 ghost use mathlib.Core.Path.{_≡_};
 ghost use Rattle.io.specs.Counts.{Counts};
 ghost use Rattle.lines.specs.Line.{Puts};
@@ -27,7 +27,7 @@ fn sound(job: &[u8]) -> bool
     if 1 < job[1] {
         return false;
     }
-    four(&job[2..])
+    sections(&job[2..], 4)
 }
 
 // Runs a job into the room, as its sections' seal or open. Refused with 9, before all else, where it can't be taken.

@@ -3,7 +3,7 @@ ghost use mathlib.Core.Path.{_≡_};
 ghost use mathlib.Core.Bool.{true};
 ghost use Prim.Native.Nat.{_≤_};
 ghost use lib.ListN.{length};
-ghost use Rattle.job.specs.Sections.{countOf, wholeAt, sectionOf, behindOf, sections};
+ghost use Rattle.job.specs.Sections.{countOf, wholeAt, sectionOf, behindOf, sectionsOf};
 
 fn count(s: &[u8]) -> usize
     requires { ⌜ 2 ≤ length (now s) ⌝ }
@@ -42,24 +42,18 @@ pub fn behind(s: &[u8]) -> &[u8]
     &s[end..]
 }
 
-// Whether there are four whole sections and nothing behind them.
-pub fn four(s: &[u8]) -> bool
-    ensures { λ r. ⌜ r ≡ sections 4 (now (s .entry)) ⌝ }
+// Whether there are k whole sections and nothing behind them.
+pub fn sections(s: &[u8], k: usize) -> bool
+    ensures { λ r. ⌜ r ≡ sectionsOf k (now (s .entry)) ⌝ }
 {
-    if !whole(s) {
-        return false;
+    let mut at = 0;
+    let mut left = k;
+    while left > 0 {
+        if !whole(&s[at..]) {
+            return false;
+        }
+        at += 2 + count(&s[at..]);
+        left -= 1;
     }
-    let a = behind(s);
-    if !whole(a) {
-        return false;
-    }
-    let b = behind(a);
-    if !whole(b) {
-        return false;
-    }
-    let c = behind(b);
-    if !whole(c) {
-        return false;
-    }
-    behind(c).len() == 0
+    at == s.len()
 }

@@ -1,5 +1,5 @@
 -- `job::sound` meets its contract: test by test. Assumes nothing.
-use Rattle.job.proofs.Soundness.{too-long, no-front, no-direction, as-four}
+use Rattle.job.proofs.Soundness.{too-long, no-front, no-direction, as-sections}
 use borrow.Author.Needs.{needs}
 use Rattle.job.proofs.sound.Statement.{statement}
 use Rattle.job.proofs.sound.Tie as tie
@@ -14,22 +14,29 @@ shared-slice-read-if3 : tie.Need-shared-slice-read-if3
 shared-slice-read-if3 c = search needs
 
 returns-3 : tie.Need-returns-3
-returns-3 c = no-direction (c .before .before .before .before .before .args .job .now) (c .before .before .before .if1 .left) (c .if3 .taken)
+returns-3 c =
+    let long-enough = c .before .before in
+    let start = long-enough .before .before .before in
+    no-direction (start .args .job .now) (long-enough .before .if1 .left) (c .if3 .taken)
 
-sub-four : tie.Need-sub-four
-sub-four c = search needs
+sub-sections : tie.Need-sub-sections
+sub-sections c = search needs
 
-part-four-start : tie.Need-part-four-start
-part-four-start c = search needs
+part-sections-start : tie.Need-part-sections-start
+part-sections-start c = search needs
 
-part-four-end : tie.Need-part-four-end
-part-four-end c = search needs
+part-sections-end : tie.Need-part-sections-end
+part-sections-end c = search needs
 
-four-requires : tie.Need-four-requires
-four-requires c κs = search needs
+sections-requires : tie.Need-sections-requires
+sections-requires c κs = search needs
 
 returns-4 : tie.Need-returns-4
-returns-4 c = as-four (c .before .before .before .before .before .before .before .args .job .now) (c .before .before .before .before .before .if1 .left) (c .before .before .if3 .left) (c .four .ensures)
+returns-4 c =
+    let directed = c .before .before in
+    let long-enough = directed .before .before in
+    let start = long-enough .before .before .before in
+    as-sections (start .args .job .now) (long-enough .before .if1 .left) (directed .if3 .left) (c .sections .ensures)
 
 pub sound-spec : {M : Type 1} → statement M
 sound-spec =
@@ -39,8 +46,8 @@ sound-spec =
     returns-2
     shared-slice-read-if3
     returns-3
-    sub-four
-    part-four-start
-    part-four-end
-    four-requires
+    sub-sections
+    part-sections-start
+    part-sections-end
+    sections-requires
     returns-4)
