@@ -37,12 +37,12 @@ other : (k : ℕ) → eqb k 3 ≡ false → eqb k 5 ≡ false → Other k
 other k p q = record { not-3 = eqb-false k 3 p; not-5 = eqb-false k 5 q }
 
 -- a scheme's key has sixteen bytes, and its limits are above what a job can hold
-record Wide (s : Scheme) : Type 0 where
-  key : s .key ≡ 16
-  header : 16384 ≤ s .header
-  body : 16384 ≤ s .body
+pub record Wide (s : Scheme) : Type 0 where
+  pub key : s .key ≡ 16
+  pub header : 16384 ≤ s .header
+  pub body : 16384 ≤ s .body
 
-wide : (number : ℕ) (s : Scheme) → schemeOf number ≡ Known s → Wide s
+pub wide : (number : ℕ) (s : Scheme) → schemeOf number ≡ Known s → Wide s
 wide =
     each-named Wide
     (record { key = refl; header = omega arith; body = omega arith })

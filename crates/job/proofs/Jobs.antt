@@ -1,22 +1,30 @@
 -- The desk's program, in its document's words (01, The desk's program), on the definitions that the contracts of `job::run` and
 -- `job::answer` cite. Assumes nothing.
 use mathlib.Core.Path.{_≡_, refl, sym, ap, _∙_}
-use mathlib.Core.Bool.{Bool, true, false}
 use mathlib.Core.List.{List, [], _∷_, _++_}
-use Prim.Native.Nat.{ℕ, zero, suc, _≤_}
+use Prim.Native.Nat.{ℕ, _+_, _≤_}
 use native.Mathlib.Omega.{arith}
 use lib.ListN.{length, drop}
 use Rattle.cells.specs.Cells.{Bytes}
+use Rattle.ciphers.specs.Ciphers.{blockOf}
 use Rattle.sealing.specs.declared.Answer.{Answer}
+use Rattle.sealing.specs.declared.schemes.Scheme.{Scheme}
+use Rattle.sealing.specs.Demands.{Admitted, SealsTo}
+use Rattle.sealing.specs.View.{viewOf}
 use Rattle.sealing.specs.Schemes.{schemeOf}
 use Rattle.sealing.specs.Checks.{checkOf}
-use Rattle.sealing.specs.Calls.{Told, told, refused, sealUnder, sealOf, openOf}
-use Rattle.sealing.proofs.Ways.{seal-ways, open-ways, told-same}
-use Rattle.lines.specs.Line.{Puts}
-use Rattle.job.specs.Job.{Job, written, isSound, jobOf, directed, printed}
-use Rattle.job.proofs.Enough.{enough}
-use Rattle.job.proofs.Reading.{unsound}
-use Rattle.job.proofs.Taken.{written-answer, sound-written}
+use Rattle.sealing.specs.Calls.{Told, told, refused, sealed, sealUnder, sealOf, openOf}
+use Rattle.ciphers.proofs.Laws.{block-most}
+use Rattle.sealing.proofs.Admitted.{seal-admitted}
+use Rattle.sealing.proofs.Demands.{returned}
+use Rattle.sealing.proofs.Exactly.{sealed-long}
+use Rattle.sealing.proofs.Ways.{told-same}
+use Rattle.lines.specs.Line.{digitsOf, outputOf, lineOf, Puts}
+use Rattle.job.specs.Job.{Job, written, jobOf, lineFor, printed}
+use Rattle.job.proofs.Enough.{wide, enough}
+use Rattle.job.proofs.Printing.{done-line, refused-line}
+use Rattle.job.proofs.Ways.{not-9, no-output, no-job}
+use Rattle.job.proofs.Taken.{written-length, written-answer, sound-written}
 
 -- ---- a job is answered by exactly what the seal or open of its sections answers
 
@@ -31,32 +39,46 @@ module _ (scheme : ℕ) (key nonce header body room : List ℕ) where
 
 -- ---- 9, before all else, is the answer to everything that is no job, and to nothing else
 
-module _ (job room : List ℕ) where
-  judged-9 : (b : Bool) → isSound job ≡ b → Bytes job → (Job job → ⊥) → jobOf job room ≡ refused 9 room
-  judged-9 true e bytes none = absurd (none (sound-written job bytes e))
-  judged-9 false e bytes none = sym (unsound job room (sym e) refl)
-
-  pub others-9 : Bytes job → (Job job → ⊥) → jobOf job room ≡ refused 9 room
-  others-9 = judged-9 (isSound job) refl
-
-seal-not-9 : (scheme : ℕ) (key nonce header body room : List ℕ) → sealOf scheme key nonce header body room .number ≡ 9 → ⊥
-seal-not-9 scheme key nonce header body room =
-    seal-ways (λ (t : Told). t .number ≡ 9 → ⊥) key nonce header scheme body room (λ l out e. omega arith) (λ k few e. omega arith)
-
-open-not-9 : (scheme : ℕ) (key nonce header run room : List ℕ) → openOf scheme key nonce header run room .number ≡ 9 → ⊥
-open-not-9 scheme key nonce header run room =
-    open-ways (λ (t : Told). t .number ≡ 9 → ⊥) key nonce header scheme run room
-    (λ l out e. omega arith) (λ l e. omega arith) (λ k few e. omega arith)
-
-directed-not-9 : (d scheme : ℕ) (key nonce header body room : List ℕ) → directed d scheme key nonce header body room .number ≡ 9 → ⊥
-directed-not-9 zero scheme key nonce header body room = seal-not-9 scheme key nonce header body room
-directed-not-9 (suc d) scheme key nonce header body room = open-not-9 scheme key nonce header body room
+pub others-9 : (job room : List ℕ) → Bytes job → (Job job → ⊥) → jobOf job room ≡ refused 9 room
+others-9 job room bytes none = no-job job room λ e. none (sound-written job bytes e)
 
 pub never-9 : (job room : List ℕ) → Job job → jobOf job room .number ≡ 9 → ⊥
 never-9 job room j e =
     let l = rw (j .is) at (j .short) in
-    let a = ap (λ (s : List ℕ). jobOf s room) (j .is) ∙ written-answer (j .scheme) (j .direction) (j .key) (j .nonce) (j .header) (j .body) (j .way) l room in
-    directed-not-9 (j .direction) (j .scheme) (j .key) (j .nonce) (j .header) (j .body) room (sym (ap (λ (t : Told). t .number) a) ∙ e)
+    let a = written-answer (j .scheme) (j .direction) (j .key) (j .nonce) (j .header) (j .body) (j .way) l room in
+    not-9 (j .direction) (j .scheme) (j .key) (j .nonce) (j .header) (j .body) room
+    (sym (ap (λ (t : Told). t .number) (ap (λ (s : List ℕ). jobOf s room) (j .is) ∙ a)) ∙ e)
+
+-- ---- what is printed: the number, the length and the output alone, whatever stood in the room
+
+-- a seal of what is admitted
+pub prints-sealed
+    : (number : ℕ) (s : Scheme) (key nonce header body room : List ℕ) → Admitted number s key nonce header → Bytes body
+    → length (written number 0 key nonce header body) ≤ 16384 → 16384 ≤ length room
+    → printed (written number 0 key nonce header body) room
+    ≡ lineOf 0 (length body + blockOf (s .cipher)) (sealed s key nonce header body)
+prints-sealed number s key nonce header body room ok b l r =
+    let w = wide number s (ok .named) in
+    let m = written-length number 0 key nonce header body in
+    let fits : length body ≤ s .body = omega (arith, l, m, w .body) in
+    let enough : length body + blockOf (s .cipher) ≤ length room
+    = omega (arith, l, m, r, w .key, ok .key-fits .long, block-most (s .cipher)) in
+    ap lineFor (job-seals number key nonce header body room l ∙ seal-admitted number s key nonce header ok body room fits enough)
+    ∙ done-line (length body + blockOf (s .cipher)) (sealed s key nonce header body) room (sealed-long number s key nonce header ok body b)
+
+-- an open of a run to which a body seals
+pub prints-opened
+    : (number : ℕ) (s : Scheme) (key nonce header body run room : List ℕ) → Admitted number s key nonce header → Bytes run
+    → SealsTo number s key nonce header body run → length (written number 1 key nonce header run) ≤ 16384 → 16384 ≤ length room
+    → printed (written number 1 key nonce header run) room ≡ lineOf 0 (length body) body
+prints-opened number s key nonce header body run room ok hr t l r =
+    let enough : length run ≤ length room + blockOf (s .cipher) = omega (arith, l, r, written-length number 1 key nonce header run) in
+    ap lineFor (job-opens number key nonce header run room l ∙ returned number s key nonce header run room ok hr enough body t)
+    ∙ done-line (length body) body room refl
+
+-- every refusal
+pub prints-refused : (job room : List ℕ) → (jobOf job room .number ≡ 0 → ⊥) → printed job room ≡ lineOf (jobOf job room .number) 0 []
+prints-refused job room h = refused-line (jobOf job room) h (no-output job room h)
 
 -- ---- a room of 16,384 bytes is always large enough, and so 5 is never answered; nor is 3, whose limits no job reaches
 
@@ -66,7 +88,7 @@ never-5 job room l = enough job room l .not-5
 pub never-3 : (job room : List ℕ) → 16384 ≤ length room → jobOf job room .number ≡ 3 → ⊥
 never-3 job room l = enough job room l .not-3
 
--- ---- the document's own job
+-- ---- the document's own job: refused with 2, and the line is `2 0 -`
 
 no-key : (room : List ℕ) → sealOf 1 [] [] [] [] room ≡ refused 2 room
 unfolding sealOf sealUnder schemeOf checkOf
@@ -74,6 +96,10 @@ no-key room = refl
 
 pub documents-job : (room : List ℕ) → jobOf (1 ∷ 0 ∷ 0 ∷ 0 ∷ 0 ∷ 0 ∷ 0 ∷ 0 ∷ 0 ∷ 0 ∷ []) room ≡ refused 2 room
 documents-job room = job-seals 1 [] [] [] [] room (omega arith) ∙ no-key room
+
+pub documents-line : (room : List ℕ) → printed (1 ∷ 0 ∷ 0 ∷ 0 ∷ 0 ∷ 0 ∷ 0 ∷ 0 ∷ 0 ∷ 0 ∷ []) room ≡ 50 ∷ 32 ∷ 48 ∷ 32 ∷ 45 ∷ 10 ∷ []
+unfolding viewOf digitsOf outputOf
+documents-line room = ap lineFor (documents-job room)
 
 -- ---- two results that a contract allows are equal
 

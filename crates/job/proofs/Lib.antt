@@ -6,4 +6,5 @@ pub mod Writing
 pub mod Taken
 pub mod Enough
 pub mod Printing
+pub mod Ways
 pub mod Jobs

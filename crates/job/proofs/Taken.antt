@@ -5,7 +5,7 @@ use mathlib.Core.List.{List, [], _∷_, _++_, append-nil}
 use Prim.Native.Nat.{ℕ, suc, _+_, _≤_}
 use native.Mathlib.Omega.{arith}
 use borrow.Author.Tests.{le-ltb}
-use lib.ListN.{length, drop, getD}
+use lib.ListN.{length, drop, getD, length-append}
 use Rattle.cells.specs.Cells.{Bytes}
 use Rattle.job.specs.Sections.{countOf, wholeAt, sectionOf, behindOf, sectionsOf}
 use Rattle.job.specs.Job.{Job, counted, written, isSound, jobOf, directed, fromKey, fromNonce, fromHeader, fromBody}
@@ -29,6 +29,13 @@ module _ (scheme direction : ℕ) (key nonce header body : List ℕ) where
 
   abbrev last : List ℕ
   last = counted body
+
+  pub written-length : length job ≡ 10 + length key + length nonce + length header + length body
+  written-length =
+      let k = length-append key (counted nonce ++ (counted header ++ last)) in
+      let n = length-append nonce (counted header ++ last) in
+      let h = length-append header last in
+      omega (arith, k, n, h)
 
   from-nonce : fromNonce job ≡ counted nonce ++ (counted header ++ last)
   from-nonce = counted-behind key (counted nonce ++ (counted header ++ last))

@@ -59,7 +59,7 @@ module _ (number : ℕ) (s : Scheme) (key nonce header : List ℕ) (ok : Admitte
   lawful =
       mode-lawful (s .kind) (s .cipher) key nonce (s .nonce) (named-fits number s (ok .named) .nonce) (ok .key-fits .bytes) (ok .nonce-fits)
 
-  sealed-long : (body : List ℕ) → Bytes body → length (sealed s key nonce header body) ≡ length body + n
+  pub sealed-long : (body : List ℕ) → Bytes body → length (sealed s key nonce header body) ≡ length body + n
   sealed-long body b = seal-run-block n M Ok lawful header (ok .header-bytes) body b .long
 
   -- ---- a body seals to a run exactly if the run is what the mode makes of it

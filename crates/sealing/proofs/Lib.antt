@@ -1,7 +1,7 @@
-mod Admitted
+pub mod Admitted
 mod Answers
 pub mod Demands
-mod Exactly
+pub mod Exactly
 pub mod Passed
 pub mod Table
 pub mod Ways
