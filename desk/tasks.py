@@ -5,6 +5,7 @@ import jobs
 import sheets
 from files import read_file
 from trouble import Trouble, plain
+from wording import count
 
 OUTCOMES = ("as expected", "done", "refused", "NOT as expected")
 
@@ -18,7 +19,7 @@ def raw_task(name):
         job = jobs.job_of(data)
     except jobs.NoJob:
         job = None
-    return Task(name, [f"A raw job of {len(data):,} bytes."], data, job, None, None)
+    return Task(name, [f"A raw job of {count(data)}."], data, job, None, None)
 
 
 def read_task(name):

@@ -6,7 +6,7 @@
 #include <string.h>
 
 static const uint8_t key[AURASKI_KEY_BYTES] = "a key of a card";
-static const uint8_t nonce[14] = "record number";
+static const uint8_t nonce[AURASKI_PAEF_128_256_NONCE] = "record number";
 static const uint8_t header[16] = {'l', 'i', 'm', 'i', 't', 's', ' ', '2', '0', '2', '6', ' ', ' ', ' ', ' ', 0x80};
 static const uint8_t body[] = {36, 40, 44, 30};
 
@@ -34,7 +34,7 @@ static int open_under(const char *what, size_t header_len, const uint8_t *run, s
 
 int main(void)
 {
-    uint8_t run[sizeof body + 16];
+    uint8_t run[sizeof body + AURASKI_PAEF_128_256_BLOCK];
     size_t length;
 
     uint32_t number = auraski_seal(AURASKI_PAEF_128_256, key, sizeof key, nonce, sizeof nonce, header, sizeof header, body,
