@@ -1,15 +1,13 @@
 //! How long one block call takes.
 
-use crate::side::{quickest, Batches, Side};
+use crate::side::{quickest, Side, Times};
 use compare::auraski::{self, opaque};
 use compare::calls;
 
 type Block = [u8; 16];
 
-const BATCHES: Batches = Batches {
-    count: 500,
-    calls: 100,
-};
+/// Calls in a batch.
+pub const CALLS: u32 = 100;
 
 /// One kind of call; `from` is absent forward.
 #[derive(Clone, Copy)]
@@ -17,6 +15,27 @@ pub struct Kind {
     cipher: u32,
     from: Option<u32>,
     want: u32,
+}
+
+pub fn cipher_name(cipher: u32) -> &'static str {
+    ["64-192", "128-256"][cipher as usize - 1]
+}
+
+impl Kind {
+    pub fn cipher_name(&self) -> &'static str {
+        cipher_name(self.cipher)
+    }
+
+    pub fn name(&self) -> String {
+        let want = self.want as usize;
+        match self.from {
+            None => format!("forward, {}", ["half 0", "half 1", "both"][want]),
+            Some(from) => {
+                let wanted = ["input", "other half", "both"][want];
+                format!("back from {}, {}", from, wanted)
+            }
+        }
+    }
 }
 
 /// What the calls of one batch work on. Each call's answer goes into the next
@@ -88,48 +107,20 @@ pub fn run(side: Side, kind: Kind, count: u32) -> u32 {
     refused
 }
 
-fn name_of(kind: Kind) -> String {
-    match kind.from {
-        None => format!(
-            "forward, {}",
-            ["half 0", "half 1", "both"][kind.want as usize]
-        ),
-        Some(from) => {
-            format!(
-                "back from {}, {}",
-                from,
-                ["input", "other half", "both"][kind.want as usize]
-            )
-        }
-    }
+/// Times one kind of call.
+pub fn measure(kind: Kind) -> Times {
+    quickest(CALLS, |side| run(side, kind, CALLS))
 }
 
-pub fn print_table() {
-    println!(
-        "ns per call, the quickest of at most {} batches of {} calls, the two sides taking turns",
-        BATCHES.count, BATCHES.calls
-    );
-    println!("second/ours above 1 means that ours is quicker");
-    println!(
-        "{:8} {:24} {:>10} {:>10} {:>12}",
-        "cipher", "call", "ours", "second", "second/ours"
-    );
-    for (cipher, cipher_name) in [(1, "64-192"), (2, "128-256")] {
+/// Every kind of call.
+pub fn kinds() -> Vec<Kind> {
+    let mut kinds = Vec::new();
+    for cipher in [1, 2] {
         for from in [None, Some(0), Some(1)] {
-            for want in 0..3 {
-                let kind = Kind { cipher, from, want };
-                let (ours, second) = quickest(BATCHES, |side| run(side, kind, BATCHES.calls));
-                println!(
-                    "{:8} {:24} {:10.0} {:10.0} {:12.2}",
-                    cipher_name,
-                    name_of(kind),
-                    ours,
-                    second,
-                    second / ours
-                );
-            }
+            kinds.extend((0..3).map(|want| Kind { cipher, from, want }));
         }
     }
+    kinds
 }
 
 /// SIDE DIRECTION CIPHER FROM WANT N.

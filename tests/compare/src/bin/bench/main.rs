@@ -2,6 +2,8 @@
 //! second program.
 //!
 //!   bench                                  both tables
+//!   bench plot FILE MACHINE                both tables, and the plot into FILE;
+//!                                          MACHINE says in it what this runs on
 //!   bench blocks                           the table of the block calls
 //!   bench sealing                          the table of sealing and opening
 //!   bench count SIDE DIRECTION CIPHER FROM WANT N
@@ -14,14 +16,37 @@
 //! length. The last two forms are for counting instructions and print nothing.
 
 mod block_calls;
+mod curves;
+mod panel;
+mod plot;
+mod scale;
 mod sealing_calls;
 mod side;
+mod svg;
+mod tables;
 
 use std::process::exit;
 
 const USAGE: &str = "bench [blocks|sealing]
+bench plot FILE MACHINE
 bench count ours|second fork|unfork CIPHER FROM WANT N
 bench count-seal ours|second seal|open SCHEME BODY N";
+
+/// Both tables; gives the figures of sealing and opening.
+fn print_tables() -> Vec<sealing_calls::Figure> {
+    tables::print_block_calls();
+    println!();
+    tables::print_sealing()
+}
+
+/// Both tables, and the plot of the same figures.
+fn draw(file: &str, machine: &str) {
+    let picture = plot::plot(&print_tables(), machine);
+    if let Err(error) = std::fs::write(file, picture) {
+        eprintln!("bench: {}: {}", file, error);
+        exit(1);
+    }
+}
 
 /// N block calls, if the words are right.
 fn count_blocks(words: &[&str]) -> Option<()> {
@@ -41,13 +66,10 @@ fn count_seals(words: &[&str]) -> Option<()> {
 /// Does what the words ask for, if they are right.
 fn obey(words: &[&str]) -> Option<()> {
     match words {
-        [] => {
-            block_calls::print_table();
-            println!();
-            sealing_calls::print_table();
-        }
-        ["blocks"] => block_calls::print_table(),
-        ["sealing"] => sealing_calls::print_table(),
+        [] => drop(print_tables()),
+        ["plot", file, machine] => draw(file, machine),
+        ["blocks"] => tables::print_block_calls(),
+        ["sealing"] => drop(tables::print_sealing()),
         ["count", rest @ ..] => count_blocks(rest)?,
         ["count-seal", rest @ ..] => count_seals(rest)?,
         _ => return None,

@@ -1,12 +1,16 @@
-//! How long sealing and opening take, under a header of 16 bytes.
+//! How long sealing and opening take, under one header.
 
-use crate::side::{quickest, Batches, Side};
+use crate::side::{quickest, Side, Times};
 use compare::auraski::{self, opaque};
-use compare::schemes::Scheme;
+use compare::schemes::{Scheme, SCHEMES};
 use compare::sealing::{self, Answer};
+use std::iter::once;
 
-/// Bodies of the table; the last is shorter where the scheme's limit is.
-const BODIES: [usize; 5] = [0, 16, 32, 1024, 131_056];
+/// The header of every call.
+pub const HEADER: [u8; 16] = *b"header of a body";
+
+/// The shortest body that is not empty.
+pub const SHORTEST: usize = 16;
 
 #[derive(Clone, Copy, PartialEq)]
 pub enum Direction {
@@ -14,13 +18,42 @@ pub enum Direction {
     Open,
 }
 
+impl Direction {
+    pub const BOTH: [Direction; 2] = [Direction::Seal, Direction::Open];
+
+    pub fn name(self) -> &'static str {
+        match self {
+            Direction::Seal => "seal",
+            Direction::Open => "open",
+        }
+    }
+
+    fn find(word: &str) -> Option<Direction> {
+        Direction::BOTH.into_iter().find(|one| one.name() == word)
+    }
+}
+
 /// One kind of call.
 #[derive(Clone, Copy)]
 pub struct Kind {
-    direction: Direction,
-    number: u32,
-    scheme: &'static Scheme,
-    body: usize,
+    pub direction: Direction,
+    pub number: u32,
+    pub scheme: &'static Scheme,
+    pub body: usize,
+}
+
+impl Kind {
+    /// A body of the greatest length that the scheme takes.
+    pub fn is_longest(&self) -> bool {
+        self.body == self.scheme.most_bytes()
+    }
+}
+
+/// What was measured of one kind, in batches of so many calls.
+pub struct Figure {
+    pub kind: Kind,
+    pub calls: u32,
+    pub times: Times,
 }
 
 /// Seal or open, of either side.
@@ -31,7 +64,6 @@ pub struct Work {
     kind: Kind,
     key: [u8; 16],
     nonce: Vec<u8>,
-    header: [u8; 16],
     text: Vec<u8>,
     room: Vec<u8>,
 }
@@ -42,7 +74,6 @@ impl Work {
             kind,
             key: *b"a key of a batch",
             nonce: vec![7; kind.scheme.nonce_bytes],
-            header: *b"header of a body",
             text: (0..kind.body).map(|place| place as u8).collect(),
             room: vec![0; kind.body + kind.scheme.block_bytes],
         };
@@ -58,7 +89,7 @@ impl Work {
             self.kind.number,
             &self.key,
             &self.nonce,
-            &self.header,
+            &HEADER,
             &self.text,
             &mut self.room,
         );
@@ -79,74 +110,41 @@ impl Work {
     }
 }
 
-/// Fewer calls for long bodies, so that the whole table takes some seconds.
-fn batches_for(body: usize) -> Batches {
-    let (count, calls) = match body {
-        0..=32 => (500, 100),
-        33..=1024 => (300, 10),
-        _ => (50, 1),
-    };
-    Batches { count, calls }
+/// Fewer calls for long bodies, so that batches are short.
+fn calls_for(body: usize) -> u32 {
+    (4096 / body.max(1)).clamp(1, 100) as u32
 }
 
-/// Per byte of body, where there is a body.
-fn per_byte(nanoseconds: f64, body: usize) -> String {
-    if body == 0 {
-        "-".to_string()
-    } else {
-        format!("{:.2}", nanoseconds / body as f64)
-    }
-}
-
-fn print_line(kind: Kind) {
-    let batches = batches_for(kind.body);
+/// Times one kind of call.
+pub fn measure(kind: Kind) -> Figure {
+    let calls = calls_for(kind.body);
     let mut work = Work::new(kind);
-    let (ours, second) = quickest(batches, |side| work.run(side, batches.calls));
-    let name = match kind.direction {
-        Direction::Seal => "seal",
-        Direction::Open => "open",
-    };
-    println!(
-        "{:6} {:4} {:>7} {:>7} {:>5} {:>9.0} {:>9.0} {:>8} {:>8} {:>12.2}",
-        kind.number,
-        name,
-        kind.body,
-        batches.count,
-        batches.calls,
-        ours,
-        second,
-        per_byte(ours, kind.body),
-        per_byte(second, kind.body),
-        second / ours
-    );
+    let times = quickest(calls, |side| work.run(side, calls));
+    Figure { kind, calls, times }
 }
 
-pub fn print_table() {
-    println!(
-        "ns per call and per byte of body (/B) under a header of 16 bytes, the quickest of at"
-    );
-    println!("most so many batches of so many calls, the two sides taking turns");
-    println!("second/ours above 1 means that ours is quicker");
-    println!(
-        "{:6} {:4} {:>7} {:>7} {:>5} {:>9} {:>9} {:>8} {:>8} {:>12}",
-        "scheme",
-        "call",
-        "body",
-        "batches",
-        "calls",
-        "ours",
-        "second",
-        "ours/B",
-        "second/B",
-        "second/ours"
-    );
-    for number in 1..=3 {
-        for direction in [Direction::Seal, Direction::Open] {
-            for body in BODIES {
-                print_line(kind_of(direction, number, body).expect("a scheme of the table"));
-            }
+/// No body, the shortest, its doubles, and the longest that the scheme takes.
+fn bodies_of(scheme: &Scheme) -> Vec<usize> {
+    let most = scheme.most_bytes();
+    let doubles = (0..).map(|times| SHORTEST << times);
+    let shorter = doubles.take_while(|body| *body < most);
+    once(0).chain(shorter).chain(once(most)).collect()
+}
+
+/// Every kind of call.
+pub fn kinds() -> Vec<Kind> {
+    let mut kinds = Vec::new();
+    for (number, scheme) in (1..).zip(&SCHEMES) {
+        for direction in Direction::BOTH {
+            kinds.extend(bodies_of(scheme).into_iter().map(|body| Kind {
+                direction,
+                number,
+                scheme,
+                body,
+            }));
         }
     }
+    kinds
 }
 
 /// A kind of call, its body cut to the scheme's limit.
@@ -167,11 +165,7 @@ pub fn parse_count(words: &[&str]) -> Option<(Side, Kind, u32)> {
         _ => return None,
     };
     let number = |place: usize| numbers[place].parse::<u32>().ok();
-    let direction = match direction {
-        "seal" => Direction::Seal,
-        "open" => Direction::Open,
-        _ => return None,
-    };
+    let direction = Direction::find(direction)?;
     let kind = kind_of(direction, number(0)?, number(1)? as usize)?;
     Some((Side::find(side)?, kind, number(2)?))
 }

@@ -2,8 +2,11 @@
 
 use std::time::{Duration, Instant};
 
+/// Batches of each side at most, of one kind of call.
+const MOST_BATCHES: usize = 500;
+
 /// No kind of call is timed for longer, however many batches are left.
-const ENOUGH: Duration = Duration::from_secs(2);
+const ENOUGH: Duration = Duration::from_secs(1);
 
 #[derive(Clone, Copy, PartialEq)]
 pub enum Side {
@@ -21,11 +24,20 @@ impl Side {
     }
 }
 
-/// How many batches there are at most, and how many calls in each.
+/// Nanoseconds per call in the quickest batch of each side, and how many
+/// batches of each side there were.
 #[derive(Clone, Copy)]
-pub struct Batches {
-    pub count: usize,
-    pub calls: u32,
+pub struct Times {
+    pub ours: f64,
+    pub second: f64,
+    pub batches: usize,
+}
+
+impl Times {
+    /// Above 1 where ours is quicker.
+    pub fn ratio(&self) -> f64 {
+        self.second / self.ours
+    }
 }
 
 /// Nanoseconds per call in one batch; `run` gives the number of refusals.
@@ -37,16 +49,18 @@ fn time(calls: u32, run: impl FnOnce() -> u32) -> f64 {
     spent / f64::from(calls)
 }
 
-/// The quickest batch of each side, the two sides taking turns.
-pub fn quickest(batches: Batches, mut run: impl FnMut(Side) -> u32) -> (f64, f64) {
-    let (mut ours, mut second) = (f64::MAX, f64::MAX);
+/// Times batches of so many calls, the two sides taking turns.
+pub fn quickest(calls: u32, mut run: impl FnMut(Side) -> u32) -> Times {
+    let mut times = Times {
+        ours: f64::MAX,
+        second: f64::MAX,
+        batches: 0,
+    };
     let start = Instant::now();
-    for _ in 0..batches.count {
-        if start.elapsed() > ENOUGH {
-            break;
-        }
-        ours = ours.min(time(batches.calls, || run(Side::Ours)));
-        second = second.min(time(batches.calls, || run(Side::Second)));
+    while times.batches < MOST_BATCHES && start.elapsed() < ENOUGH {
+        times.ours = times.ours.min(time(calls, || run(Side::Ours)));
+        times.second = times.second.min(time(calls, || run(Side::Second)));
+        times.batches += 1;
     }
-    (ours, second)
+    times
 }

@@ -1,0 +1,89 @@
+//! One panel of the plot: its axes, its curves and where they end.
+
+use crate::curves::{look_of, Curve};
+use crate::scale::{length_name, time_name, Scale};
+use crate::svg::Picture;
+
+const GRID: &str = "stroke=\"#e5e7eb\" stroke-width=\"1\"";
+const AXIS: &str = "stroke=\"#374151\" stroke-width=\"1\"";
+const MARK: &str = "font-size=\"12\" fill=\"#374151\"";
+
+/// The least distance from one number at the curves' ends to the next.
+const APART: f64 = 14.0;
+
+/// A round number, without what a sum of tenths may be off by.
+fn mark_name(time: f64) -> String {
+    let name = format!("{:.3}", time);
+    name.trim_end_matches('0').trim_end_matches('.').to_string()
+}
+
+fn draw_times(picture: &mut Picture, scale: &Scale) {
+    for time in scale.marked_times() {
+        let y = scale.y(time);
+        picture.line((scale.left, y), (scale.right, y), GRID);
+        let looks = format!("{} text-anchor=\"end\"", MARK);
+        picture.text((scale.left - 8.0, y + 4.0), &looks, &mark_name(time));
+    }
+}
+
+/// Every double is marked, every other one named, and the last one too.
+fn draw_lengths(picture: &mut Picture, scale: &Scale) {
+    let (_, last) = scale.lengths;
+    for (place, length) in scale.marked_lengths().into_iter().enumerate() {
+        let x = scale.x(length);
+        picture.line((x, scale.bottom), (x, scale.bottom + 5.0), AXIS);
+        let (from, anchor) = if length == last {
+            (x - 4.0, "start")
+        } else {
+            (x, "middle")
+        };
+        if place % 2 == 0 || length == last {
+            let looks = format!("{} text-anchor=\"{}\"", MARK, anchor);
+            picture.text((from, scale.bottom + 20.0), &looks, &length_name(length));
+        }
+    }
+}
+
+pub fn draw_axes(picture: &mut Picture, scale: &Scale) {
+    draw_times(picture, scale);
+    draw_lengths(picture, scale);
+    let corner = (scale.left, scale.bottom);
+    picture.line((scale.left, scale.top), corner, AXIS);
+    picture.line(corner, (scale.right, scale.bottom), AXIS);
+    let middle = (scale.left + scale.right) / 2.0;
+    let looks = "font-size=\"13\" fill=\"#111827\" text-anchor=\"middle\"";
+    picture.text((middle, scale.bottom + 42.0), looks, "body, bytes");
+}
+
+pub fn draw_curve(picture: &mut Picture, scale: &Scale, curve: &Curve) {
+    let look = look_of(curve.number);
+    let places: Vec<_> = curve
+        .points
+        .iter()
+        .map(|(length, time)| scale.place(*length, *time))
+        .collect();
+    picture.curve(&places, &look.line(curve.side));
+    for (place, point) in places.into_iter().zip(&curve.points) {
+        let looks = format!("r=\"3\" fill=\"{}\"", look.colour);
+        picture.dot(place, &looks, &curve.words(*point));
+    }
+}
+
+/// The time at each curve's end, in figures, kept apart from one another.
+pub fn draw_ends(picture: &mut Picture, scale: &Scale, curves: &[Curve]) {
+    let mut ends: Vec<(f64, u32)> = curves
+        .iter()
+        .filter_map(|curve| Some((curve.points.last()?.1, curve.number)))
+        .collect();
+    ends.sort_by(|one, other| other.0.total_cmp(&one.0));
+    let mut above = f64::MIN;
+    for (time, number) in ends {
+        let y = (scale.y(time) + 4.0).max(above + APART);
+        let looks = format!(
+            "font-size=\"12\" font-weight=\"bold\" fill=\"{}\"",
+            look_of(number).colour
+        );
+        picture.text((scale.right + 9.0, y), &looks, &time_name(time));
+        above = y;
+    }
+}

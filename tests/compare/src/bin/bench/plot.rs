@@ -1,0 +1,109 @@
+//! The plot of nanoseconds per byte by the body's length: a panel for sealing
+//! and one for opening.
+
+use crate::curves::{curves_of, look_of, name_of, of_direction, DASHES};
+use crate::panel::{draw_axes, draw_curve, draw_ends};
+use crate::scale::{top_for, Scale};
+use crate::sealing_calls::{Direction, Figure, HEADER, SHORTEST};
+use crate::side::Side;
+use crate::svg::Picture;
+
+const NAME: &str = "Auraski: time to seal and to open, per byte of body";
+const WIDTH: f64 = 960.0;
+const HEIGHT: f64 = 520.0;
+/// Where the panels begin from the left, and their other measures.
+const LEFTS: [f64; 2] = [74.0, 540.0];
+const PANEL_WIDTH: f64 = 360.0;
+const PANEL_TOP: f64 = 142.0;
+const PANEL_BOTTOM: f64 = 460.0;
+
+const TITLE: &str = "font-size=\"20\" font-weight=\"bold\" fill=\"#111827\"";
+const HEADING: &str = "font-size=\"16\" font-weight=\"bold\" fill=\"#111827\"";
+const WORDS: &str = "font-size=\"13\" fill=\"#111827\"";
+const NOTE: &str = "font-size=\"13\" fill=\"#4b5563\"";
+const SAMPLE: &str = "stroke=\"#374151\" stroke-width=\"2\"";
+
+/// The scale of both panels, here of the one that begins at `left`.
+fn scale_for(figures: &[Figure], left: f64) -> Scale {
+    let with_body = figures.iter().filter(|figure| figure.kind.body > 0);
+    let longest = figures.iter().map(|figure| figure.kind.body).max();
+    let per_byte = |figure: &Figure| {
+        let time = figure.times.ours.max(figure.times.second);
+        time / figure.kind.body as f64
+    };
+    Scale {
+        left,
+        right: left + PANEL_WIDTH,
+        top: PANEL_TOP,
+        bottom: PANEL_BOTTOM,
+        lengths: (SHORTEST, longest.unwrap_or(SHORTEST).next_power_of_two()),
+        most: top_for(with_body.map(per_byte).fold(0.0, f64::max)),
+    }
+}
+
+/// What the panel shows, and between which numbers the ratios lie.
+fn draw_title(picture: &mut Picture, figures: &[&Figure], direction: Direction, left: f64) {
+    let ratios = figures.iter().map(|figure| figure.times.ratio());
+    let (least, most) = ratios.fold((f64::MAX, 0.0), |(least, most), ratio| {
+        (ratio.min(least), ratio.max(most))
+    });
+    let name = match direction {
+        Direction::Seal => "Seal",
+        Direction::Open => "Open",
+    };
+    let range = format!("{:.2} to {:.2}", least, most);
+    let words = format!("second program takes {} times ours", range);
+    picture.text((left, PANEL_TOP - 16.0), HEADING, name);
+    picture.text((left + 60.0, PANEL_TOP - 16.0), WORDS, &words);
+}
+
+fn draw_panel(picture: &mut Picture, all: &[Figure], direction: Direction, left: f64) {
+    let figures = of_direction(all, direction);
+    let scale = scale_for(all, left);
+    draw_title(picture, &figures, direction, left);
+    draw_axes(picture, &scale);
+    let curves = curves_of(&figures);
+    for curve in &curves {
+        draw_curve(picture, &scale, curve);
+    }
+    draw_ends(picture, &scale, &curves);
+}
+
+/// The title, what stands under it, and the name of the axis of times.
+fn draw_words(picture: &mut Picture, machine: &str) {
+    picture.text((24.0, 34.0), TITLE, NAME);
+    let note = format!("header of {} bytes; {}", HEADER.len(), machine);
+    picture.text((24.0, 56.0), NOTE, &note);
+    let (x, y) = (24.0, (PANEL_TOP + PANEL_BOTTOM) / 2.0);
+    let turn = format!("transform=\"rotate(-90 {} {})\"", x, y);
+    let looks = format!("{} text-anchor=\"middle\" {}", WORDS, turn);
+    picture.text((x, y), &looks, "nanoseconds per byte");
+}
+
+/// A short line, and behind it what lines of its look show.
+fn draw_sample(picture: &mut Picture, left: f64, looks: &str, words: &str) {
+    let y = 86.0;
+    picture.line((left, y), (left + 30.0, y), looks);
+    picture.text((left + 38.0, y + 4.5), WORDS, words);
+}
+
+fn draw_legend(picture: &mut Picture) {
+    for (left, number) in [(24.0, 1), (244.0, 2), (472.0, 3)] {
+        let looks = look_of(number).line(Side::Ours);
+        draw_sample(picture, left, &looks, &name_of(number));
+    }
+    draw_sample(picture, 706.0, SAMPLE, "ours");
+    let dashed = format!("{} {}", SAMPLE, DASHES);
+    draw_sample(picture, 800.0, &dashed, "second program");
+}
+
+/// The plot as SVG; `machine` says what it was measured on.
+pub fn plot(figures: &[Figure], machine: &str) -> String {
+    let mut picture = Picture::new(WIDTH, HEIGHT);
+    draw_words(&mut picture, machine);
+    draw_legend(&mut picture);
+    for (direction, left) in Direction::BOTH.into_iter().zip(LEFTS) {
+        draw_panel(&mut picture, figures, direction, left);
+    }
+    picture.finish(NAME)
+}
