@@ -307,9 +307,22 @@ fn an_input_is_cut_into_its_jobs() {
     }
 }
 
+/// Where these tests run under an emulator, the program has to as well.
+fn start_lines() -> Command {
+    let program = env!("CARGO_BIN_EXE_lines");
+    match std::env::var_os("CARGO_TARGET_X86_64_UNKNOWN_LINUX_GNU_RUNNER") {
+        Some(emulator) => {
+            let mut command = Command::new(emulator);
+            command.arg(program);
+            command
+        }
+        None => Command::new(program),
+    }
+}
+
 /// The program that reads such an input.
 fn lines_program(input: &[u8]) -> Output {
-    let mut running = Command::new(env!("CARGO_BIN_EXE_lines"))
+    let mut running = start_lines()
         .stdin(Stdio::piped())
         .stdout(Stdio::piped())
         .stderr(Stdio::piped())
