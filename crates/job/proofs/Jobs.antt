@@ -106,8 +106,9 @@ documents-line room = ap lineFor (documents-job room)
 pub same-run : (job room : List ℕ) (a b : Answer) (r q : List ℕ) → told a r ≡ jobOf job room → told b q ≡ jobOf job room → (a ≡ b) × (r ≡ q)
 same-run job room a b r q = told-same a b r q (jobOf job room)
 
-pub same-answer : (job room text : List ℕ) (k l : ℕ) (t u : List ℕ)
-    → Puts (printed job room) k text t → Puts (printed job room) l text u → (k ≡ l) × (t ≡ u)
-same-answer job room text k l t u (a, p) (b, q) =
-    let e = a ∙ sym b in
-    (e, p ∙ ap (λ (n : ℕ). printed job room ++ drop n text) e ∙ sym q)
+pub same-answer : (job room text : List ℕ) (k l : ℕ) (t u r q : List ℕ)
+    → Puts (printed job room) k text t → Puts (printed job room) l text u
+    → r ≡ jobOf job room .room → q ≡ jobOf job room .room → (k ≡ l) × (t ≡ u) × (r ≡ q)
+same-answer job room text k l t u r q (a, p) (b, o) e f =
+    let n = a ∙ sym b in
+    (n, p ∙ ap (λ (m : ℕ). printed job room ++ drop m text) n ∙ sym o, e ∙ sym f)

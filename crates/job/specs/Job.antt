@@ -45,7 +45,7 @@ fromHeader job = behindOf (fromNonce job)
 abbrev pub fromBody : List ℕ → List ℕ
 fromBody job = behindOf (fromHeader job)
 
--- at most 16,384 bytes, direction 0 or 1, four sections in full and nothing left over
+-- at most 16,384 bytes, direction 0 or 1, four sections in full and nothing left over (a job of no direction has no sections)
 unfoldable pub isSound : List ℕ → Bool
 isSound job = cond (ltb 16384 (length job)) false (cond (ltb 1 (getD job 1 0)) false (sectionsOf 4 (fromKey job)))
 

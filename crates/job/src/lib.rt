@@ -56,10 +56,12 @@ pub fn run(job: &[u8], room: &mut [u8]) -> Answer
     open(scheme as u32, key, nonce, header, body, room)
 }
 
-// Runs a job and lays its line down at the front of the text; answers how long the line is.
+// Runs a job and lays its line down at the front of the text; answers how long the line is. The room takes every output of a job, and
+// the text, twice as long and 64 bytes, every line.
 pub fn answer(job: &[u8], room: &mut [u8; 16384], text: &mut [u8; 32832]) -> usize
     ensures { λ r. ⌜ Counts r (now (text .exit)) ⌝ }
     ensures { λ r. ⌜ Puts (printed (now (job .entry)) (now (room .entry))) r (now (text .entry)) (now (text .exit)) ⌝ }
+    ensures { λ _. ⌜ now (room .exit) ≡ jobOf (now (job .entry)) (now (room .entry)) .room ⌝ }
 {
     let a = run(job, room);
     let output = view(a.number, a.length, room);

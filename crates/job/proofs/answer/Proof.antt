@@ -2,6 +2,7 @@
 use mathlib.Core.Path.{_≡_, ap}
 use native.Mathlib.Omega.{arith}
 use lib.ListN.{length}
+use Rattle.sealing.specs.Calls.{Told}
 use Rattle.job.proofs.Printing.{view-most, printed-so}
 use borrow.Author.Needs.{needs}
 use Rattle.job.proofs.answer.Statement.{statement}
@@ -32,7 +33,7 @@ returns c =
     let start = after-run .before .before .before in
     let line = c .line .ensures in
     let said = printed-so (start .args .job .now) (start .args .room .now) (after-run .run .ensures) (after-view .view .ensures) in
-    rw (← said) line
+    (line .0, (rw (← said) (line .1), ap (λ (t : Told). t .room) (after-run .run .ensures)))
 
 pub answer-spec : {M : Type 1} → statement M
 answer-spec = tie.close (tie.spec run-requires view-requires line-requires returns)
