@@ -9,7 +9,7 @@ values:
   or @FILE for the bytes of a file
 
 exit status:
-  0  done            1  refused            2  bad input; one sentence on standard error says what
+  0  done      1  refused      2  bad input, or a file or sealjob failed; a sentence on standard error says what
 """
 
 ABOUT = """\

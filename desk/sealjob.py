@@ -28,9 +28,12 @@ def command():
 
 def given_command(text):
     try:
-        return shlex.split(text)
+        words = shlex.split(text)
     except ValueError as error:
         raise Trouble(f"the variable SEALJOB holds no command: {error}") from None
+    if not words:
+        raise Trouble("the variable SEALJOB holds no command")
+    return words
 
 
 def answer_to(data, words):

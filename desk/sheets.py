@@ -41,7 +41,7 @@ def check_shown(line):
     """A story is shown as it is, so that nothing in it may steer a terminal."""
     for char in line.replace("\t", " "):
         if not char.isprintable():
-            raise Trouble(f"a character that can't be shown, {ascii(char)}")
+            raise Trouble(f"a character that can't be shown, {ascii(char)}; a raw job's name ends in .job")
 
 
 def take_line(text, place, story, lines):

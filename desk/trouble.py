@@ -15,4 +15,4 @@ def placed(place, reading, *given):
 
 def plain(text):
     """A name as it can be shown: a terminal must not act on what stands in it."""
-    return "".join(c if c.isprintable() else c.encode("unicode_escape").decode() for c in text)
+    return "".join(c if c.isprintable() else c.encode("unicode_escape").decode() for c in text) or "''"

@@ -25,10 +25,6 @@ def lengths(job, scheme):
             f"scheme {job.scheme} wants {KEY} and {scheme.nonce}")
 
 
-def too_long(job, scheme):
-    return f"{scheme.most:,} bytes at most, given a header of {count(job.header)} and a {job.last} of {count(job.body)}"
-
-
 def too_short(job, scheme):
     return f"given {count(job.body)}, a block of scheme {job.scheme} has {scheme.block}"
 
@@ -37,7 +33,7 @@ def not_authentic(_job, _scheme):
     return "no byte of a body is given"
 
 
-DETAILS = {1: no_scheme, 2: lengths, 3: too_long, 4: too_short, 6: not_authentic}
+DETAILS = {1: no_scheme, 2: lengths, 4: too_short, 6: not_authentic}
 
 
 def detail(number, data, job):

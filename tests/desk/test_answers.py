@@ -24,7 +24,7 @@ class Meanings(support.DeskTest):
             (2, Job(2, 0, KEY[1:], NONCE, b"", b""), "given a key of 15 bytes and a nonce of 14; scheme 2 wants 16 and 14"),
             (2, Job(3, 0, KEY, NONCE, b"", b""), "given a key of 16 bytes and a nonce of 14; scheme 3 wants 16 and 15"),
             (2, Job(1, 0, KEY, NONCE, b"", b""), "scheme 1 wants 16 and 6"),
-            (3, Job(1, 0, KEY, NONCE, bytes(65529), b""), "65,528 bytes at most, given a header of 65,529 bytes"),
+            (3, Job(1, 0, KEY, NONCE, b"", b""), "refused, header or body too long"),
             (4, Job(1, 1, KEY, NONCE, b"", bytes(7)), "given 7 bytes, a block of scheme 1 has 8"),
             (5, Job(2, 0, KEY, NONCE, b"", b""), "refused, room shorter than the output"),
             (6, Job(2, 1, KEY, NONCE, b"", bytes(16)), "refused, not authentic: no byte of a body is given"),

@@ -6,7 +6,9 @@ import subprocess
 import support
 from support import SEAL, replaced
 
-MACHINE = "run=()\n"
+with open(os.path.join(support.ROOT, "tools", "machine"), encoding="utf-8") as file:
+    CURRENT = file.read().partition("# current FILE")[2]
+MACHINE = "run=()\nprogram_needs=()\n#" + CURRENT
 PROGRAM = """#!/bin/sh
 cd "$(dirname "$0")/.." && echo building && mkdir -p target/bin && echo >> target/built || exit 1
 printf '#!/bin/sh\\necho 6 0 -\\n' > target/bin/sealjob && chmod +x target/bin/sealjob
@@ -20,6 +22,8 @@ class RootTest(support.DeskTest):
         self.root = self.path("a root")
         os.makedirs(os.path.join(self.root, "tools"))
         self.tool("machine", MACHINE)
+        os.makedirs(os.path.join(self.root, "crates"))
+        self.write(os.path.join("a root", "crates.txt"), "")
 
     def tool(self, name, text):
         self.write(os.path.join("a root", "tools", name), text)
@@ -59,6 +63,12 @@ class Launcher(RootTest):
         self.assertTrue(ended.stdout.startswith("answer   6 0 -\n"))
         self.assertEqual(self.launch(*SEAL).stderr, "")
 
+    def test_built_anew_if_a_crate_has_changed(self):
+        self.launch(*SEAL)
+        later = os.path.getmtime(self.path("a root/target/bin/sealjob")) + 10
+        os.utime(self.path("a root/crates"), (later, later))
+        self.assertEqual(self.launch(*SEAL).stderr, "building\n")
+
     def test_not_built(self):
         self.tool("program", FAILS)
         ended = self.launch(*SEAL)
@@ -66,7 +76,7 @@ class Launcher(RootTest):
         self.assertEqual(ended.stderr, "program: not built\ndesk: sealjob is not there and could not be built\n")
 
     def test_what_runs_it_is_set_up(self):
-        self.tool("machine", "run=(a-missing-emulator)\n")
+        self.tool("machine", "run=()\nprogram_needs=(a-missing-emulator)\n")
         self.tool("setup", "#!/bin/sh\necho \"setup: missing $*\" >&2\nexit 2\n")
         ended = self.launch(*SEAL)
         self.assertEqual(ended.returncode, 2)
@@ -102,7 +112,7 @@ class Program(RootTest):
 
     def build(self, prover):
         """With the prover that is given, or none: nothing is on the PATH but what the tools need."""
-        for name in ("bash", "dirname", "ls", "mkdir", "tail"):
+        for name in ("bash", "dirname", "find", "ls", "mkdir", "tail", "touch"):
             os.symlink(shutil.which(name), os.path.join(self.root, "tools", name))
         if prover:
             self.tool("rt", f"#!/bin/sh\n{prover}")

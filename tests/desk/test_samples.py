@@ -35,9 +35,9 @@ class Samples(support.DeskTest):
 
     def test_the_accident(self):
         """Fifteen bytes and the same with 80 added: each run opens under its own and is refused under the other."""
-        for scheme, lengths in ((1, {16}), (2, {15, 16}), (3, {16})):
+        for scheme in (1, 2, 3):
             sealings = [s for s in self.sheets if s.job.direction == SEAL and s.job.scheme == scheme and s.output and s.job.body]
-            self.assertEqual({len(s.job.header) for s in sealings}, lengths)
+            self.assertEqual({len(s.job.header) for s in sealings}, {15, 16})
             for sealing in sealings:
                 own = sealing.job.header
                 other = own[:15] if len(own) == 16 else own + b"\x80"

@@ -61,7 +61,7 @@ class Sheets(support.DeskTest):
         self.refuses("a.sheet, line 5: output: only with 'expect 0'", SMALL + "output 01")
 
     def test_not_shown(self):
-        self.refuses("a.sheet, line 1: a character that can't be shown, '\\x1b'", "# \x1b[2J\n" + SMALL)
+        self.refuses("a.sheet, line 1: a character that can't be shown, '\\x1b'; a raw job's name ends in .job", "# \x1b[2J\n" + SMALL)
 
     def test_file_beside_the_sheet(self):
         self.write("header.bin", b"\x80")

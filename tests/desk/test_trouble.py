@@ -67,6 +67,7 @@ class Sealjob(support.DeskTest):
         self.write("plain", b"")
         self.complains("Permission denied", *SEAL, program=self.path("plain"))
         self.complains("the variable SEALJOB holds no command: No closing quotation", *SEAL, program="'")
+        self.complains("the variable SEALJOB holds no command", *SEAL, program=" ")
 
     def test_fails(self):
         self.complains("sealjob failed: it ended with status 1", *SEAL, program="false")

@@ -8,6 +8,7 @@ import shlex
 import shutil
 import subprocess
 import sys
+import time
 
 from layout import Sealed, stream
 
@@ -19,6 +20,9 @@ ANSWERS = (0, 1, 2, 4, 6, 9)
 # second program has all jobs to do, sealjob one.
 PATIENCE_ALL = 600
 PATIENCE_ONE = 60
+
+# Seconds between the pieces of a job.
+PAUSE = 0.1
 
 LINE = re.compile(rb"([0-9]) ([0-9]+) ([0-9a-f]+|-)\n")
 
@@ -46,6 +50,31 @@ def run(words, given, patience):
     """Runs a command to its end, with these bytes on its standard input."""
     pipe = subprocess.PIPE
     return subprocess.run(words, input=given, stdout=pipe, stderr=pipe, timeout=patience)
+
+
+def run_in_pieces(words, given, patience):
+    """The same, with the bytes handed over in three pieces and a pause before each."""
+    pipe = subprocess.PIPE
+    with subprocess.Popen(words, stdin=pipe, stdout=pipe, stderr=pipe) as running:
+        third = len(given) // 3 + 1
+        for start in (0, third, 2 * third):
+            time.sleep(PAUSE)
+            send(running.stdin, given[start : start + third])
+        try:
+            out, err = running.communicate(timeout=patience)
+        except subprocess.TimeoutExpired:
+            running.kill()
+            raise
+    return subprocess.CompletedProcess(words, running.returncode, out, err)
+
+
+def send(pipe, piece):
+    """A program that has read all it takes may have closed the pipe."""
+    try:
+        pipe.write(piece)
+        pipe.flush()
+    except BrokenPipeError:
+        pass
 
 
 def ask(second, jobs):

@@ -21,7 +21,7 @@ use Rattle.sealing.proofs.Exactly.{sealed-long}
 use Rattle.sealing.proofs.Ways.{told-same}
 use Rattle.lines.specs.Line.{digitsOf, outputOf, lineOf, Puts}
 use Rattle.job.specs.Job.{Job, written, jobOf, lineFor, printed}
-use Rattle.job.proofs.Enough.{wide, enough}
+use Rattle.job.proofs.Enough.{wide, not-3, not-5}
 use Rattle.job.proofs.Printing.{done-line, refused-line}
 use Rattle.job.proofs.Ways.{not-9, no-output, no-job}
 use Rattle.job.proofs.Taken.{written-length, written-answer, sound-written}
@@ -49,9 +49,9 @@ never-9 job room j e =
     not-9 (j .direction) (j .scheme) (j .key) (j .nonce) (j .header) (j .body) room
     (sym (ap (λ (t : Told). t .number) (ap (λ (s : List ℕ). jobOf s room) (j .is) ∙ a)) ∙ e)
 
--- ---- what is printed: the number, the length and the output alone, whatever stood in the room
+-- ---- what is printed
 
--- a seal of what is admitted
+-- a seal of what is admitted: the run, whatever stood in the room
 pub prints-sealed
     : (number : ℕ) (s : Scheme) (key nonce header body room : List ℕ) → Admitted number s key nonce header → Bytes body
     → length (written number 0 key nonce header body) ≤ 16384 → 16384 ≤ length room
@@ -66,7 +66,7 @@ prints-sealed number s key nonce header body room ok b l r =
     ap lineFor (job-seals number key nonce header body room l ∙ seal-admitted number s key nonce header ok body room fits enough)
     ∙ done-line (length body + blockOf (s .cipher)) (sealed s key nonce header body) room (sealed-long number s key nonce header ok body b)
 
--- an open of a run to which a body seals
+-- an open of a run to which a body seals: the body, whatever stood in the room
 pub prints-opened
     : (number : ℕ) (s : Scheme) (key nonce header body run room : List ℕ) → Admitted number s key nonce header → Bytes run
     → SealsTo number s key nonce header body run → length (written number 1 key nonce header run) ≤ 16384 → 16384 ≤ length room
@@ -76,17 +76,17 @@ prints-opened number s key nonce header body run room ok hr t l r =
     ap lineFor (job-opens number key nonce header run room l ∙ returned number s key nonce header run room ok hr enough body t)
     ∙ done-line (length body) body room refl
 
--- every refusal
+-- every refusal: its number, 0 and `-`
 pub prints-refused : (job room : List ℕ) → (jobOf job room .number ≡ 0 → ⊥) → printed job room ≡ lineOf (jobOf job room .number) 0 []
 prints-refused job room h = refused-line (jobOf job room) h (no-output job room h)
 
--- ---- a room of 16,384 bytes is always large enough, and so 5 is never answered; nor is 3, whose limits no job reaches
+-- ---- no job reaches the limits of a scheme; and a room of 16,384 bytes is always large enough
+
+pub never-3 : (job room : List ℕ) → jobOf job room .number ≡ 3 → ⊥
+never-3 = not-3
 
 pub never-5 : (job room : List ℕ) → 16384 ≤ length room → jobOf job room .number ≡ 5 → ⊥
-never-5 job room l = enough job room l .not-5
-
-pub never-3 : (job room : List ℕ) → 16384 ≤ length room → jobOf job room .number ≡ 3 → ⊥
-never-3 job room l = enough job room l .not-3
+never-5 = not-5
 
 -- ---- the document's own job: refused with 2, and the line is `2 0 -`
 

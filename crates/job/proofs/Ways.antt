@@ -1,12 +1,12 @@
 -- The ways in which a job is answered: what holds of each of them holds of the answer. Assumes nothing.
 use mathlib.Core.Path.{_≡_, refl, sym}
-use mathlib.Core.Bool.{Bool, true, false, cond}
+use mathlib.Core.Bool.{Bool, true, false}
 use mathlib.Core.List.{List}
 use Prim.Native.Nat.{ℕ, zero, suc, _≤_}
 use native.Mathlib.Omega.{arith}
 use lib.ListN.{getD}
 use Rattle.sealing.specs.Calls.{Told, refused, done, forged}
-use Rattle.sealing.proofs.Ways.{seal-ways, open-ways}
+use Rattle.sealing.proofs.Ways.{pick-all, seal-ways, open-ways}
 use Rattle.job.specs.Job.{isSound, jobOf, directed}
 use Rattle.job.proofs.Reading.{unsound}
 
@@ -21,13 +21,9 @@ module _
     directed-ways zero scheme key nonce header body = seal-ways P key nonce header scheme body room d r
     directed-ways (suc way) scheme key nonce header body = open-ways P key nonce header scheme body room d f r
 
-    either : (b : Bool) (t u : Told) → P t → P u → P (cond b t u)
-    either true t u p q = p
-    either false t u p q = q
-
     job-ways : P (refused 9 room) → (job : List ℕ) → P (jobOf job room)
     unfolding jobOf
-    job-ways nine job = either (isSound job) _ _ (directed-ways (getD job 1 0) (getD job 0 0) _ _ _ _) nine
+    job-ways nine job = pick-all P (isSound job) _ _ (directed-ways (getD job 1 0) (getD job 0 0) _ _ _ _) nine
 
 -- a seal or open is never answered by 9
 pub not-9 : (way scheme : ℕ) (key nonce header body room : List ℕ) → directed way scheme key nonce header body room .number ≡ 9 → ⊥

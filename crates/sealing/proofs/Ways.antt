@@ -19,11 +19,11 @@ use Rattle.sealing.proofs.Passed.{check-most}
 -- ---- for any property of what is told
 
 module _ (P : Told → Type 0) where
-  pick-all : (b : Bool) (t u : Told) → P t → P u → P (cond b t u)
+  pub pick-all : (b : Bool) (t u : Told) → P t → P u → P (cond b t u)
   pick-all true t u p q = p
   pick-all false t u p q = q
 
-  passed-all : (k : ℕ) (t : Told) (room : List ℕ) → P t → P (refused k room) → P (passed k t room)
+  pub passed-all : (k : ℕ) (t : Told) (room : List ℕ) → P t → P (refused k room) → P (passed k t room)
   passed-all zero t room p q = p
   passed-all (suc k) t room p q = q
 
