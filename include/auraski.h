@@ -2,8 +2,8 @@
  *
  * libauraski.a is x86-64 code with the calling convention of Linux. It calls memcpy and memset and nothing else, allocates nothing,
  * prints nothing and keeps nothing from one call to the next: calls may run at the same time in several threads. A call does not wipe
- * its stack (under 3 KB, as measured): parts of key and body stay behind there. How long a call takes, and which memory it reads, may
- * depend on the key and the data.
+ * its stack: parts of key and body may stay behind there. How long a call takes, and which memory it reads, may depend on the key and
+ * the data.
  *
  * A pointer stands for as many bytes as the length behind it says. No pointer may be null; where the length is 0 any other will do, and
  * nothing is read or written through it. What a call writes (room and *length, or both result blocks) must not overlap anything else

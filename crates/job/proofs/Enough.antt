@@ -1,7 +1,7 @@
 -- A room of 16,384 bytes is enough for every job, and no section of a job is above a scheme's limits: 3 and 5 are never answered.
 -- Assumes nothing.
 use mathlib.Core.Path.{_≡_, refl, _∙_}
-use mathlib.Core.Bool.{Bool, true, false, not, cond}
+use mathlib.Core.Bool.{Bool, true, false, not}
 use mathlib.Core.List.{List}
 use Prim.Native.Nat.{ℕ, zero, suc, _+_, _-_, _≤_, _<_}
 use native.Mathlib.Omega.{arith}
@@ -17,7 +17,8 @@ use Rattle.sealing.specs.Schemes.{schemeOf}
 use Rattle.sealing.specs.Checks.{checkOf}
 use Rattle.sealing.specs.Calls.{Told, under, opened, sealUnder, openUnder, sealOf, openOf}
 use Rattle.sealing.proofs.Table.{each-named}
-use Rattle.sealing.proofs.Ways.{pick-all, passed-all}
+use Rattle.sealing.proofs.Choice.{chosen, either}
+use Rattle.sealing.proofs.Ways.{passed-all}
 use Rattle.job.specs.Sections.{sectionOf}
 use Rattle.job.specs.Job.{isSound, jobOf, directed, fromKey, fromNonce, fromHeader, fromBody}
 use Rattle.job.proofs.Soundness.{Sound, sound, sound-front}
@@ -60,22 +61,18 @@ module _
     (room : List ℕ)
     (p5 : length room < 16384 → P 5)
   where
-    check-so : (b : Bool) (j k : ℕ) → (b ≡ true → P j) → (b ≡ false → P k) → P (cond b j k)
-    check-so true j k p q = p refl
-    check-so false j k p q = q refl
-
     -- a key of sixteen bytes is part of a job whose body comes so far
     module _ (s : Scheme) (w : Wide s) (key nonce header body : ℕ) (short : Bool) (more : ℕ) where
       checked : header ≤ 16384 → body ≤ 16384 → (key ≡ 16 → body + more ≤ 16384)
           → P (checkOf s key nonce header body short more (length room))
       unfolding checkOf
       checked h b r =
-          check-so (not (eqb key (s .key))) 2 _ (λ _. p2) λ k.
-          check-so (not (eqb nonce (s .nonce))) 2 _ (λ _. p2) λ _.
-          check-so (ltb (s .header) header) 3 _ (λ e. absurd (omega (arith, ltb-true (s .header) header e, w .header))) λ _.
-          check-so (ltb (s .body) body) 3 _ (λ e. absurd (omega (arith, ltb-true (s .body) body e, w .body))) λ _.
-          check-so short 4 _ (λ _. p4) λ _.
-          check-so (ltb (length room) (body + more)) 5 0
+          chosen P (not (eqb key (s .key))) 2 _ (λ _. p2) λ k.
+          chosen P (not (eqb nonce (s .nonce))) 2 _ (λ _. p2) λ _.
+          chosen P (ltb (s .header) header) 3 _ (λ e. absurd (omega (arith, ltb-true (s .header) header e, w .header))) λ _.
+          chosen P (ltb (s .body) body) 3 _ (λ e. absurd (omega (arith, ltb-true (s .body) body e, w .body))) λ _.
+          chosen P short 4 _ (λ _. p4) λ _.
+          chosen P (ltb (length room) (body + more)) 5 0
           (λ e.
           p5 (omega (arith, ltb-true (length room) (body + more) e, r (eqb-true key (s .key) (not-false _ k) ∙ w .key))))
           (λ _. p0)
@@ -108,7 +105,7 @@ module _
         open-so =
             under-so (schemeOf scheme) _ λ s e.
             passed-all Told-so _ _ room
-            (pick-all Told-so (opened s key nonce header body .authentic) _ _ p0 p6)
+            (either Told-so (opened s key nonce header body .authentic) _ _ p0 p6)
             (checked s (wide scheme s e) (length key) (length nonce) (length header) (length body - blockOf (s .cipher))
             (ltb (length body) (blockOf (s .cipher))) 0 h (omega arith) (λ k. omega (arith, r k)))
 
@@ -116,18 +113,14 @@ module _
         directed-so zero = seal-so
         directed-so (suc d) = open-so
 
-    sound-so : (b : Bool) (t u : Told) → (b ≡ true → Told-so t) → Told-so u → Told-so (cond b t u)
-    sound-so true t u p q = p refl
-    sound-so false t u p q = q
-
     pub job-so : (job : List ℕ) → P (jobOf job room .number)
     unfolding jobOf
     job-so job =
-        sound-so (isSound job) _ _
+        chosen Told-so (isSound job) _ _
         (λ e.
         let a = all-of job (sound job e) in
         directed-so (getD job 0 0) _ _ _ _ (omega (arith, a)) (omega (arith, a)) (λ k. omega (arith, a, k)) (getD job 1 0))
-        p9
+        (λ _. p9)
 
 -- ---- 3 and 5
 

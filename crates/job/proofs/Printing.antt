@@ -1,6 +1,6 @@
 -- The part of the room that is printed, and the lines of the answers. Assumes nothing.
 use mathlib.Core.Path.{_≡_, ap, _∙_}
-use mathlib.Core.Bool.{Bool, true, false, not, cond}
+use mathlib.Core.Bool.{not}
 use mathlib.Core.List.{List, [], _++_}
 use Prim.Native.Nat.{ℕ, _≤_}
 use native.Mathlib.Omega.{arith}
@@ -11,19 +11,17 @@ use lib.Seq.{take-at}
 use Rattle.sealing.specs.declared.Answer.{Answer}
 use Rattle.sealing.specs.Calls.{Told, told, done}
 use Rattle.sealing.specs.View.{viewOf}
+use Rattle.sealing.proofs.Choice.{either}
 use Rattle.lines.specs.Line.{lineOf}
 use Rattle.job.specs.Job.{jobOf, lineFor, printed}
-
-either : (b : Bool) (v w : List ℕ) {n : ℕ} → length v ≤ n → length w ≤ n → length (cond b v w) ≤ n
-either true v w h j = h
-either false v w h j = j
 
 -- a part is no longer than its room
 pub view-most : (number l : ℕ) (room : List ℕ) → length (viewOf number l room) ≤ length room
 unfolding viewOf
 view-most number l room =
-    either (not (eqb number 0)) [] _ (omega arith)
-    (either (ltb (length room) l) [] (take l room) (omega arith) (simp length-take (omega arith)))
+    let Most : List ℕ → Type 0 = λ v. length v ≤ length room in
+    either Most (not (eqb number 0)) [] _ (omega arith)
+    (either Most (ltb (length room) l) [] (take l room) (omega arith) (simp length-take (omega arith)))
 
 -- the line of the part that was viewed is the line of the job
 pub printed-so

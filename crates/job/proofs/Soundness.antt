@@ -10,6 +10,7 @@ use native.Mathlib.Omega.{arith}
 use borrow.Author.Tests.{ltb-false, lt-ltb, le-ltb, eqb-true}
 use lib.Dec.{ltb}
 use lib.ListN.{length, take, drop, getD, length-drop, drop-of-length-le}
+use Rattle.sealing.proofs.Choice.{either}
 use Rattle.blocks.proofs.Parts.{part-rest}
 use Rattle.job.specs.Sections.{wholeAt, behindOf, sectionsOf}
 use Rattle.job.specs.Job.{isSound, fromKey, fromNonce, fromHeader, fromBody}
@@ -56,10 +57,6 @@ sound-front job w = omega (arith, whole-long (fromKey job) (w .key), length-drop
 nothing : (s : List ℕ) → s ≡ [] → sectionsOf 4 s ≡ false
 nothing s e = ap (sectionsOf 4) e ∙ cut 3 [] (sym (whole-short [] (omega arith)))
 
-either : (b c : Bool) → c ≡ false → false ≡ cond b false c
-either true c e = refl
-either false c e = sym e
-
 module _ (job : List ℕ) where
   pub too-long : 16384 < length job → false ≡ isSound job
   unfolding isSound
@@ -67,7 +64,7 @@ module _ (job : List ℕ) where
 
   pub no-front : length job ≤ 16384 → length job < 2 → false ≡ isSound job
   unfolding isSound sectionsOf
-  no-front l h = rw (le-ltb 16384 (length job) l) (either (ltb 1 (getD job 1 0)) (sectionsOf 4 (fromKey job)) (nothing (fromKey job) (drop-of-length-le job {i = 2} (omega arith))))
+  no-front l h = rw (le-ltb 16384 (length job) l) (either (λ (b : Bool). false ≡ b) (ltb 1 (getD job 1 0)) false (sectionsOf 4 (fromKey job)) refl (sym (nothing (fromKey job) (drop-of-length-le job {i = 2} (omega arith)))))
 
   pub no-direction : length job ≤ 16384 → 1 < getD job 1 0 → false ≡ isSound job
   unfolding isSound

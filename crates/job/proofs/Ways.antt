@@ -6,7 +6,8 @@ use Prim.Native.Nat.{ℕ, zero, suc, _≤_}
 use native.Mathlib.Omega.{arith}
 use lib.ListN.{getD}
 use Rattle.sealing.specs.Calls.{Told, refused, done, forged}
-use Rattle.sealing.proofs.Ways.{pick-all, seal-ways, open-ways}
+use Rattle.sealing.proofs.Choice.{either}
+use Rattle.sealing.proofs.Ways.{seal-ways, open-ways}
 use Rattle.job.specs.Job.{isSound, jobOf, directed}
 use Rattle.job.proofs.Reading.{unsound}
 
@@ -23,7 +24,7 @@ module _
 
     job-ways : P (refused 9 room) → (job : List ℕ) → P (jobOf job room)
     unfolding jobOf
-    job-ways nine job = pick-all P (isSound job) _ _ (directed-ways (getD job 1 0) (getD job 0 0) _ _ _ _) nine
+    job-ways nine job = either P (isSound job) _ _ (directed-ways (getD job 1 0) (getD job 0 0) _ _ _ _) nine
 
 -- a seal or open is never answered by 9
 pub not-9 : (way scheme : ℕ) (key nonce header body room : List ℕ) → directed way scheme key nonce header body room .number ≡ 9 → ⊥

@@ -48,7 +48,7 @@ pub more : (k : ℕ) (s : List ℕ) → wholeAt s ≡ true → sectionsOf (suc k
 unfolding sectionsOf
 more k s e = rw e
 
-pub both : (b c : Bool) → cond b c false ≡ true → (b ≡ true) × (c ≡ true)
+both : (b c : Bool) → cond b c false ≡ true → (b ≡ true) × (c ≡ true)
 both true c h = (refl, h)
 both false c h = absurd (false≢true h)
 

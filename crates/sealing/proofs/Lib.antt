@@ -1,5 +1,6 @@
 pub mod Admitted
 mod Answers
+pub mod Choice
 pub mod Demands
 pub mod Exactly
 pub mod Passed

@@ -10,6 +10,7 @@ use borrow.Author.Tests.{eqb-true, eq-eqb, ltb-false, le-ltb, not-false}
 use Rattle.sealing.specs.declared.schemes.Scheme.{Scheme}
 use Rattle.sealing.specs.Checks.{checkOf}
 use Rattle.sealing.specs.Calls.{Told, refused, passed}
+use Rattle.sealing.proofs.Choice.{either}
 
 -- `more` and `room` as in checkOf: the output is `more` bytes longer than the body
 pub record Passed (s : Scheme) (key nonce header body more room : ℕ) : Type 0 where
@@ -27,8 +28,7 @@ past true k rest e = absurd (omega arith)
 past false k rest e = (refl, e)
 
 most : (b : Bool) (k rest : ℕ) → k ≤ 5 → rest ≤ 5 → cond b k rest ≤ 5
-most true k rest h j = h
-most false k rest h j = j
+most = either (λ (k : ℕ). k ≤ 5)
 
 -- ---- all of them, in the order of checkOf
 

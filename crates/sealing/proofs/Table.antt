@@ -3,7 +3,6 @@
 use mathlib.Core.Path.{_≡_, refl, ap, subst}
 use Prim.Native.Nat.{ℕ}
 use native.Mathlib.Omega.{arith}
-use mathlib.Core.Bool.{Bool, true, false, cond}
 use mathlib.Core.List.{List}
 use lib.Dec.{eqb}
 use borrow.Author.Tests.{ne-eqb}
@@ -12,6 +11,7 @@ use Rattle.sealing.specs.declared.schemes.Named.{Named}
 use Rattle.sealing.specs.declared.schemes.Named.the-variants.{Known, Unknown}
 use Rattle.sealing.specs.Schemes.{scheme1, scheme2, scheme3, schemeOf, Fits}
 use Rattle.sealing.specs.Calls.{under, sealUnder, openUnder, sealOf, openOf}
+use Rattle.sealing.proofs.Choice.{either}
 
 -- ---- what the numbers name
 
@@ -39,15 +39,11 @@ module _ (P : Scheme → Type 0) where
   Named-so (Known s) = P s
   Named-so Unknown = Unit
 
-  pick-so : (b : Bool) (m k : Named) → Named-so m → Named-so k → Named-so (cond b m k)
-  pick-so true m k p q = p
-  pick-so false m k p q = q
-
   all-so : P scheme1 → P scheme2 → P scheme3 → (number : ℕ) → Named-so (schemeOf number)
   unfolding schemeOf
   all-so a b c number =
-      pick-so (eqb number 1) (Known scheme1) _ a
-      (pick-so (eqb number 2) (Known scheme2) _ b (pick-so (eqb number 3) (Known scheme3) Unknown c tt))
+      either Named-so (eqb number 1) (Known scheme1) _ a
+      (either Named-so (eqb number 2) (Known scheme2) _ b (either Named-so (eqb number 3) (Known scheme3) Unknown c tt))
 
   pub each-named : P scheme1 → P scheme2 → P scheme3 → (number : ℕ) (s : Scheme) → schemeOf number ≡ Known s → P s
   each-named a b c number s e = subst Named-so e (all-so a b c number)

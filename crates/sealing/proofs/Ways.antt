@@ -2,7 +2,7 @@
 use mathlib.Core.Path.{_≡_, refl, sym, ap, _∙_}
 use Prim.Native.Nat.{ℕ, zero, suc, _+_, _-_, _≤_}
 use native.Mathlib.Omega.{arith}
-use mathlib.Core.Bool.{Bool, true, false, cond}
+use mathlib.Core.Bool.{false}
 use mathlib.Core.List.{List}
 use lib.Dec.{ltb}
 use lib.ListN.{length}
@@ -14,15 +14,12 @@ use Rattle.sealing.specs.declared.schemes.Named.the-variants.{Known, Unk
 use Rattle.sealing.specs.Schemes.{schemeOf}
 use Rattle.sealing.specs.Calls.{Told, told, refused, done, forged, passed, under}
 use Rattle.sealing.specs.Calls.{sealed, opened, sealUnder, openUnder, sealOf, openOf}
+use Rattle.sealing.proofs.Choice.{either}
 use Rattle.sealing.proofs.Passed.{check-most}
 
 -- ---- for any property of what is told
 
 module _ (P : Told → Type 0) where
-  pub pick-all : (b : Bool) (t u : Told) → P t → P u → P (cond b t u)
-  pick-all true t u p q = p
-  pick-all false t u p q = q
-
   pub passed-all : (k : ℕ) (t : Told) (room : List ℕ) → P t → P (refused k room) → P (passed k t room)
   passed-all zero t room p q = p
   passed-all (suc k) t room p q = q
@@ -61,7 +58,7 @@ module _ (P : Told → Type 0) where
         let l = length run - n in
         let o = opened s key nonce header run in
         passed-all _ _ room
-        (pick-all (o .authentic) _ _ (d (o .body)) f)
+        (either P (o .authentic) _ _ (d (o .body)) f)
         (r _ (check-most s (length key) (length nonce) (length header) l (ltb (length run) n) 0 (length room)))
 
     pub open-ways : (scheme : ℕ) (run room : List ℕ) → ((l : ℕ) (out : List ℕ) → P (done l out room))
