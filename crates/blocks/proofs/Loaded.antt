@@ -15,8 +15,8 @@ drop-replicate (suc k) zero v = ap (λ (m : ℕ). replicate m v) (sym (zero-sub 
 drop-replicate (suc k) (suc n) v = drop-replicate k n v ∙ ap (λ (m : ℕ). replicate m v) (sym (suc-sub-suc n k))
 
 -- a part with a whole block
-pub load-whole : (n : ℕ) (part zeros : List ℕ) → n ≤ length part → take n (take n part ++ zeros) ≡ pad n part
-load-whole n part zeros h = take-at (take n part) zeros n (length-take-le n part h) ∙ sym (pad-long n part h)
+pub load-full : (n : ℕ) (part zeros : List ℕ) → n ≤ length part → take n (take n part ++ zeros) ≡ pad n part
+load-full n part zeros h = take-at (take n part) zeros n (length-take-le n part h) ∙ sym (pad-long n part h)
 
 take-replicate : (k n : ℕ) → k ≤ n → take k (replicate n 0) ≡ replicate {A = ℕ} k 0
 take-replicate zero n h = refl

@@ -25,10 +25,10 @@ wrote-first {x} {room₀} {room} n e k h =
     record { said = h; reach = e; long = ap length h ∙ simp (length-append, length-drop) (omega arith) }
 
 module _ {out room₀ room : List ℕ} {at : ℕ} (w : Wrote out room₀ at room) (n : ℕ) (x ys : List ℕ) (e : length x ≡ n) where
-  whole
+  said-more
       : ys ≡ x ++ drop n (take (length room - at) (drop at room))
       → take at room ++ (ys ++ drop (length room - at) (drop at room)) ≡ (out ++ x) ++ drop (at + n) room₀
-  whole h =
+  said-more h =
       put-rest at room ys
       ∙ rw (h, part-rest at room, w .said, take-at out (drop at room₀) at (w .reach), drop-at out (drop at room₀) at (w .reach), drop-drop n at room₀, append-assoc)
 
@@ -39,7 +39,7 @@ module _ {out room₀ room : List ℕ} {at : ℕ} (w : Wrote out room₀ at room
   wrote-more k h =
       let l : length (out ++ x) ≡ at + n = length-append out x ∙ omega (arith, w .reach) in
       record {
-        said = whole h;
+        said = said-more h;
         reach = l;
-        long = ap length (whole h) ∙ length-append (out ++ x) (drop (at + n) room₀) ∙ rw (l, length-drop) (omega arith);
+        long = ap length (said-more h) ∙ length-append (out ++ x) (drop (at + n) room₀) ∙ rw (l, length-drop) (omega arith);
       }

@@ -2,19 +2,19 @@
 -- below the width's size. Assumes nothing.
 use mathlib.Core.List.{List}
 use Prim.Native.Nat.{ℕ, _<_}
-use Rattle.cells.specs.Cells.{Width, Nibble, Byte, size, sub, unsub, sub8, unsub8, flips, turn, unturn, swap, step2, step3}
+use Rattle.cells.specs.Cells.{Width, Nibble, Byte, size, sub, unsub, sub8, unsub8, flips, shuffle, unshuffle, swap, step2, step3}
 use native.Mathlib.Omega.{arith}
 use lib.Bits.{bitXor, xor-lt}
 use lib.ListN.{getD}
 use Rattle.cells.proofs.Below.{Undoes, undoes}
 
 pub sub-law : (w : Width) → Undoes (size w) (sub w) (unsub w)
-unfolding sub unsub sub8 unsub8 flips turn unturn swap
+unfolding sub unsub sub8 unsub8 flips shuffle unshuffle swap
 sub-law Nibble = undoes (sub Nibble) (unsub Nibble) 16 tt
 sub-law Byte = undoes (sub Byte) (unsub Byte) 256 tt
 
 pub unsub-law : (w : Width) → Undoes (size w) (unsub w) (sub w)
-unfolding sub unsub sub8 unsub8 flips turn unturn swap
+unfolding sub unsub sub8 unsub8 flips shuffle unshuffle swap
 unsub-law Nibble = undoes (unsub Nibble) (sub Nibble) 16 tt
 unsub-law Byte = undoes (unsub Byte) (sub Byte) 256 tt
 

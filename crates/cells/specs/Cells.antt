@@ -53,23 +53,23 @@ flips x =
     (bit x 3) (bit x 2) (bit x 1) ((bit x 0 + nor (bit x 3) (bit x 2)) % 2)
 
 -- the bits (7..0) become (2,1,7,6,4,0,3,5)
-unfoldable pub turn : ℕ → ℕ
-turn x = byte (bit x 2) (bit x 1) (bit x 7) (bit x 6) (bit x 4) (bit x 0) (bit x 3) (bit x 5)
+unfoldable pub shuffle : ℕ → ℕ
+shuffle x = byte (bit x 2) (bit x 1) (bit x 7) (bit x 6) (bit x 4) (bit x 0) (bit x 3) (bit x 5)
 
 -- and back
-unfoldable pub unturn : ℕ → ℕ
-unturn x = byte (bit x 5) (bit x 4) (bit x 0) (bit x 3) (bit x 1) (bit x 7) (bit x 6) (bit x 2)
+unfoldable pub unshuffle : ℕ → ℕ
+unshuffle x = byte (bit x 5) (bit x 4) (bit x 0) (bit x 3) (bit x 1) (bit x 7) (bit x 6) (bit x 2)
 
 -- bits 1 and 2 change places
 unfoldable pub swap : ℕ → ℕ
 swap x = byte (bit x 7) (bit x 6) (bit x 5) (bit x 4) (bit x 3) (bit x 1) (bit x 2) (bit x 0)
 
--- four times the flips; after each of the first three the turn, after the fourth the swap
+-- four times the flips; after each of the first three the shuffle, after the fourth the swap
 unfoldable pub sub8 : ℕ → ℕ
-sub8 x = swap (flips (turn (flips (turn (flips (turn (flips x)))))))
+sub8 x = swap (flips (shuffle (flips (shuffle (flips (shuffle (flips x)))))))
 
 unfoldable pub unsub8 : ℕ → ℕ
-unsub8 x = flips (unturn (flips (unturn (flips (unturn (flips (swap x)))))))
+unsub8 x = flips (unshuffle (flips (unshuffle (flips (unshuffle (flips (swap x)))))))
 
 -- ---- the 4-bit table (01, Cells; F.1, S4)
 

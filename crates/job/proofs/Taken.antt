@@ -8,16 +8,16 @@ use borrow.Author.Tests.{le-ltb}
 use lib.ListN.{length, drop, getD, length-append}
 use Rattle.cells.specs.Cells.{Bytes}
 use Rattle.job.specs.Sections.{countOf, wholeAt, sectionOf, behindOf, sectionsOf}
-use Rattle.job.specs.Job.{Job, counted, written, isSound, jobOf, directed, fromKey, fromNonce, fromHeader, fromBody}
+use Rattle.job.specs.Job.{Job, withCount, written, isSound, jobOf, directed, fromKey, fromNonce, fromHeader, fromBody}
 use Rattle.modes.proofs.Bytes.{bytes-drop}
 use Rattle.job.proofs.Wholes.{more}
 use Rattle.job.proofs.Soundness.{sound, sound-front}
-use Rattle.job.proofs.Writing.{counted-whole, counted-section, counted-behind, written-so}
+use Rattle.job.proofs.Writing.{with-count-whole, with-count-section, with-count-behind, written-so}
 
 -- ---- what was written is read
 
-counted-more : (k : ℕ) (x rest : List ℕ) → sectionsOf (suc k) (counted x ++ rest) ≡ sectionsOf k rest
-counted-more k x rest = more k (counted x ++ rest) (counted-whole x rest) ∙ ap (sectionsOf k) (counted-behind x rest)
+with-count-more : (k : ℕ) (x rest : List ℕ) → sectionsOf (suc k) (withCount x ++ rest) ≡ sectionsOf k rest
+with-count-more k x rest = more k (withCount x ++ rest) (with-count-whole x rest) ∙ ap (sectionsOf k) (with-count-behind x rest)
 
 no-more : sectionsOf 0 [] ≡ true
 unfolding sectionsOf
@@ -28,32 +28,32 @@ module _ (scheme direction : ℕ) (key nonce header body : List ℕ) where
   job = written scheme direction key nonce header body
 
   abbrev last : List ℕ
-  last = counted body
+  last = withCount body
 
   pub written-length : length job ≡ 10 + length key + length nonce + length header + length body
   written-length =
-      let k = length-append key (counted nonce ++ (counted header ++ last)) in
-      let n = length-append nonce (counted header ++ last) in
+      let k = length-append key (withCount nonce ++ (withCount header ++ last)) in
+      let n = length-append nonce (withCount header ++ last) in
       let h = length-append header last in
       omega (arith, k, n, h)
 
-  from-nonce : fromNonce job ≡ counted nonce ++ (counted header ++ last)
-  from-nonce = counted-behind key (counted nonce ++ (counted header ++ last))
+  from-nonce : fromNonce job ≡ withCount nonce ++ (withCount header ++ last)
+  from-nonce = with-count-behind key (withCount nonce ++ (withCount header ++ last))
 
-  from-header : fromHeader job ≡ counted header ++ last
-  from-header = ap behindOf from-nonce ∙ counted-behind nonce (counted header ++ last)
+  from-header : fromHeader job ≡ withCount header ++ last
+  from-header = ap behindOf from-nonce ∙ with-count-behind nonce (withCount header ++ last)
 
   -- the last section stands in front of nothing
   from-body : fromBody job ≡ last ++ []
-  from-body = ap behindOf from-header ∙ counted-behind header last ∙ sym (append-nil last)
+  from-body = ap behindOf from-header ∙ with-count-behind header last ∙ sym (append-nil last)
 
   four : sectionsOf 4 (fromKey job) ≡ true
   four =
-      counted-more 3 key (counted nonce ++ (counted header ++ last))
-      ∙ counted-more 2 nonce (counted header ++ last)
-      ∙ counted-more 1 header last
+      with-count-more 3 key (withCount nonce ++ (withCount header ++ last))
+      ∙ with-count-more 2 nonce (withCount header ++ last)
+      ∙ with-count-more 1 header last
       ∙ ap (sectionsOf 1) (sym (append-nil last))
-      ∙ counted-more 0 body []
+      ∙ with-count-more 0 body []
       ∙ no-more
 
   pub written-sound : direction ≤ 1 → length job ≤ 16384 → isSound job ≡ true
@@ -65,10 +65,10 @@ module _ (scheme direction : ℕ) (key nonce header body : List ℕ) where
   written-answer d l room =
       rw (
         written-sound d l,
-        counted-section key (counted nonce ++ (counted header ++ last)),
-        ap sectionOf from-nonce ∙ counted-section nonce (counted header ++ last),
-        ap sectionOf from-header ∙ counted-section header last,
-        ap sectionOf from-body ∙ counted-section body [],
+        with-count-section key (withCount nonce ++ (withCount header ++ last)),
+        ap sectionOf from-nonce ∙ with-count-section nonce (withCount header ++ last),
+        ap sectionOf from-header ∙ with-count-section header last,
+        ap sectionOf from-body ∙ with-count-section body [],
       )
 
 -- ---- what is read was written
@@ -86,8 +86,8 @@ bytes-behind : (s : List ℕ) → Bytes s → Bytes (behindOf s)
 unfolding behindOf
 bytes-behind s h = bytes-drop (2 + countOf s) s h
 
-so : (s : List ℕ) {rest : List ℕ} → Bytes s → wholeAt s ≡ true → behindOf s ≡ rest → s ≡ counted (sectionOf s) ++ rest
-so s h w e = written-so s w (h .at 0) (h .at 1) ∙ ap (λ (r : List ℕ). counted (sectionOf s) ++ r) e
+so : (s : List ℕ) {rest : List ℕ} → Bytes s → wholeAt s ≡ true → behindOf s ≡ rest → s ≡ withCount (sectionOf s) ++ rest
+so s h w e = written-so s w (h .at 0) (h .at 1) ∙ ap (λ (r : List ℕ). withCount (sectionOf s) ++ r) e
 
 pub sound-written : (job : List ℕ) → Bytes job → isSound job ≡ true → Job job
 sound-written job bytes h =
@@ -96,7 +96,7 @@ sound-written job bytes h =
     let at-nonce = bytes-behind (fromKey job) at-key in
     let at-header = bytes-behind (fromNonce job) at-nonce in
     let at-body = bytes-behind (fromHeader job) at-header in
-    let last = so (fromBody job) at-body (w .body) (no-length _ (w .none)) ∙ append-nil (counted (sectionOf (fromBody job))) in
+    let last = so (fromBody job) at-body (w .body) (no-length _ (w .none)) ∙ append-nil (withCount (sectionOf (fromBody job))) in
     let sections = so (fromKey job) at-key (w .key) (so (fromNonce job) at-nonce (w .nonce) (so (fromHeader job) at-header (w .header) last)) in
     record {
       scheme = getD job 0 0;

@@ -1,6 +1,6 @@
 -- A section that is written is read, and a section that is read was written.
---     counted-..   of a section written in front of something: its count, that it is whole, its bytes, what stands behind it
---     written-so   a whole section of bytes is one that was written
+--     with-count-..   of a section written in front of something: its count, that it is whole, its bytes, what stands behind it
+--     written-so      a whole section of bytes is one that was written
 -- Assumes nothing.
 use mathlib.Core.Path.{_≡_, sym, ap, _∙_}
 use mathlib.Core.Bool.{true}
@@ -11,24 +11,24 @@ use borrow.Author.Tests.{le-leb}
 use lib.ListN.{length, take, drop, getD, length-append, length-drop, take-append-drop}
 use lib.Seq.{take-at, drop-at, drop-drop, length-take-le}
 use Rattle.job.specs.Sections.{countOf, wholeAt, sectionOf, behindOf}
-use Rattle.job.specs.Job.{counted}
+use Rattle.job.specs.Job.{withCount}
 use Rattle.job.proofs.Wholes.{whole-long}
 
 module _ (x rest : List ℕ) where
-  pub counted-count : countOf (counted x ++ rest) ≡ length x
-  counted-count = omega arith
+  pub with-count-count : countOf (withCount x ++ rest) ≡ length x
+  with-count-count = omega arith
 
-  pub counted-whole : wholeAt (counted x ++ rest) ≡ true
+  pub with-count-whole : wholeAt (withCount x ++ rest) ≡ true
   unfolding wholeAt
-  counted-whole = le-leb (2 + countOf (counted x ++ rest)) (length (counted x ++ rest)) (omega (arith, counted-count, length-append x rest))
+  with-count-whole = le-leb (2 + countOf (withCount x ++ rest)) (length (withCount x ++ rest)) (omega (arith, with-count-count, length-append x rest))
 
-  pub counted-section : sectionOf (counted x ++ rest) ≡ x
+  pub with-count-section : sectionOf (withCount x ++ rest) ≡ x
   unfolding sectionOf
-  counted-section = take-at x rest (countOf (counted x ++ rest)) (sym counted-count)
+  with-count-section = take-at x rest (countOf (withCount x ++ rest)) (sym with-count-count)
 
-  pub counted-behind : behindOf (counted x ++ rest) ≡ rest
+  pub with-count-behind : behindOf (withCount x ++ rest) ≡ rest
   unfolding behindOf
-  counted-behind = drop-at (counted x) rest (2 + countOf (counted x ++ rest)) (omega (arith, counted-count))
+  with-count-behind = drop-at (withCount x) rest (2 + countOf (withCount x ++ rest)) (omega (arith, with-count-count))
 
 -- the count of a whole section is its length
 pub section-length : (s : List ℕ) → wholeAt s ≡ true → length (sectionOf s) ≡ countOf s
@@ -46,7 +46,7 @@ parted h l t =
     let n = h * 256 + l in
     ap (λ (r : List ℕ). take n t ++ r) (sym (drop-drop n 2 (h ∷ l ∷ t))) ∙ take-append-drop n t
 
-pub written-so : (s : List ℕ) → wholeAt s ≡ true → getD s 0 0 < 256 → getD s 1 0 < 256 → s ≡ counted (sectionOf s) ++ behindOf s
+pub written-so : (s : List ℕ) → wholeAt s ≡ true → getD s 0 0 < 256 → getD s 1 0 < 256 → s ≡ withCount (sectionOf s) ++ behindOf s
 written-so [] w p q = absurd (omega (arith, whole-long [] w))
 written-so (h ∷ []) w p q = absurd (omega (arith, whole-long (h ∷ []) w))
 written-so (h ∷ l ∷ t) w p q =

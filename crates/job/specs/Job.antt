@@ -12,12 +12,12 @@ use Rattle.job.specs.Sections.{sectionOf, behindOf, sectionsOf}
 
 -- ---- a job, written: scheme, direction, key, nonce, header, body
 
-abbrev pub counted : List ℕ → List ℕ
-counted s = (length s / 256) ∷ (length s % 256) ∷ s
+abbrev pub withCount : List ℕ → List ℕ
+withCount s = (length s / 256) ∷ (length s % 256) ∷ s
 
 abbrev pub written : (scheme direction : ℕ) (key nonce header body : List ℕ) → List ℕ
 written scheme direction key nonce header body =
-    scheme ∷ direction ∷ (counted key ++ (counted nonce ++ (counted header ++ counted body)))
+    scheme ∷ direction ∷ (withCount key ++ (withCount nonce ++ (withCount header ++ withCount body)))
 
 -- what the desk's program takes: a job so written, that seals (0) or opens (1), within the limit
 pub record Job (job : List ℕ) : Type 0 where

@@ -11,12 +11,12 @@ use mathlib.Core.List.{List, [], _∷_, _++_}
 use lib.ListN.{length, take, drop, take-append-drop}
 use lib.Seq.{take-at, drop-at}
 use Rattle.cells.specs.Cells.{Bytes, Block}
-use Rattle.modes.specs.Blocks.{whole, full, pad, same}
+use Rattle.modes.specs.Blocks.{beforeLast, full, pad, same}
 use Rattle.modes.specs.Mode.{Mode, Opened, before, walkFrom, walk, headed}
 use Rattle.modes.specs.Mode.{sealFrom, sealRest, sealRun, openFrom, openRest, openRun}
 use Rattle.modes.specs.Lawful.{Lawful}
 use Rattle.modes.proofs.Bytes.{bytes-nil, block-size, block-append, block-head, block-rest, pad-block, same-refl, same-eq}
-use Rattle.modes.proofs.Rest.{whole-cut, walk-last, headed-skip, headed-none, headed-some}
+use Rattle.modes.proofs.Rest.{before-last-cut, walk-last, headed-skip, headed-none, headed-some}
 use Rattle.modes.proofs.Rest.{seal-run-empty, seal-run-rest, open-run-empty, open-run-rest}
 use Rattle.modes.proofs.Ends.{seal-last-block, open-seal-last, seal-open-last}
 
@@ -29,8 +29,8 @@ module _ {St : Type 0} (n : ℕ) (M : Mode St) (Ok : St → Type 0) (L : Lawful 
   grow m r = omega (arith, suc-mul m n)
 
   -- l bytes, which are not none, are whole blocks and a last one of r
-  cut : (l : ℕ) → zero < l → (r : ℕ) × (l ≡ whole n l * n + r) × (zero < r) × (r ≤ n)
-  cut l k = whole-cut n l pos k
+  cut : (l : ℕ) → zero < l → (r : ℕ) × (l ≡ beforeLast n l * n + r) × (zero < r) × (r ≤ n)
+  cut l k = before-last-cut n l pos k
 
   -- ---- the header
 
@@ -49,7 +49,7 @@ module _ {St : Type 0} (n : ℕ) (M : Mode St) (Ok : St → Type 0) (L : Lawful 
   walk-ok noM s (x ∷ xs) ok h =
       let a : List ℕ = x ∷ xs in
       let w = cut (length a) (omega arith) in
-      walk-from-ok (whole n (length a)) noM s a (w .0) ok (record { long = w .1; bytes = h })
+      walk-from-ok (beforeLast n (length a)) noM s a (w .0) ok (record { long = w .1; bytes = h })
 
   headed-ok : (noM : Bool) (a : List ℕ) → Bytes a → Ok (headed n M noM a)
   headed-ok true a h = rw (headed-none n M a) (walk-ok true (M .start) a (L .start-ok) h)
@@ -120,7 +120,7 @@ module _ {St : Type 0} (n : ℕ) (M : Mode St) (Ok : St → Type 0) (L : Lawful 
   seal-rest-block s b ok h k =
       let w = cut (length b) k in
       block-size
-      (seal-from-block (whole n (length b)) s b (w .0) ok (record { long = w .1; bytes = h }) (w .3))
+      (seal-from-block (beforeLast n (length b)) s b (w .0) ok (record { long = w .1; bytes = h }) (w .3))
       (ap (λ (l : ℕ). l + n) (sym (w .1)))
 
   open-seal-rest : (s : St) (b : List ℕ) → Ok s → Bytes b → zero < length b
@@ -130,8 +130,8 @@ module _ {St : Type 0} (n : ℕ) (M : Mode St) (Ok : St → Type 0) (L : Lawful 
       let w = cut (length b) k in
       let c : List ℕ = sealRest n M s b in
       let len : length c - n ≡ length b = omega (arith, seal-rest-block s b ok h k .long) in
-      ap (λ (l : ℕ). openFrom n M (whole n l) s c) len
-      ∙ open-seal-from (whole n (length b)) s b (w .0) ok (record { long = w .1; bytes = h }) (w .3)
+      ap (λ (l : ℕ). openFrom n M (beforeLast n l) s c) len
+      ∙ open-seal-from (beforeLast n (length b)) s b (w .0) ok (record { long = w .1; bytes = h }) (w .3)
 
   seal-open-rest : (s : St) (c : List ℕ) → Ok s → Bytes c → n < length c → openRest n M s c .authentic ≡ true
       → Block (length c - n) (openRest n M s c .body) × (sealRest n M s (openRest n M s c .body) ≡ c)
@@ -139,12 +139,12 @@ module _ {St : Type 0} (n : ℕ) (M : Mode St) (Ok : St → Type 0) (L : Lawful 
   seal-open-rest s c ok h k e =
       let l : ℕ = length c - n in
       let w = cut l (omega arith) in
-      let b : List ℕ = openFrom n M (whole n l) s c .body in
-      let q : Block (whole n l * n + w .0) b × (sealFrom n M (whole n l) s b ≡ c)
-      = seal-open-from (whole n l) s c (w .0) ok (record { long = omega (arith, w .1); bytes = h }) (w .3) e in
+      let b : List ℕ = openFrom n M (beforeLast n l) s c .body in
+      let q : Block (beforeLast n l * n + w .0) b × (sealFrom n M (beforeLast n l) s b ≡ c)
+      = seal-open-from (beforeLast n l) s c (w .0) ok (record { long = omega (arith, w .1); bytes = h }) (w .3) e in
       let len : length b ≡ l = q .0 .long ∙ sym (w .1) in (
         record { long = len; bytes = q .0 .bytes },
-        ap (λ (j : ℕ). sealFrom n M (whole n j) s b) len ∙ q .1,
+        ap (λ (j : ℕ). sealFrom n M (beforeLast n j) s b) len ∙ q .1,
       )
 
   -- ---- whole runs

@@ -9,26 +9,26 @@ use mathlib.Core.Bool.{Bool, true, false}
 use mathlib.Core.List.{List, [], _++_}
 use lib.ListN.{length, take, drop, length-drop}
 use borrow.Author.Tests.{eq-eqb, ne-eqb}
-use Rattle.modes.specs.Blocks.{whole, full, pad, same}
+use Rattle.modes.specs.Blocks.{beforeLast, full, pad, same}
 use Rattle.modes.specs.Mode.{Mode, before, walkFrom, walk, headed}
 use Rattle.modes.specs.Mode.{sealLast, sealFrom, sealRest, sealRun, openLast, openFrom, openRest, openRun}
 
 -- ---- how many blocks before the last: for the equations below, and for induction
 
-pub whole-last : (n l : ℕ) → zero < n → l ≤ n → whole n l ≡ 0
-unfolding whole
-whole-last n l p h = div-eq-of-lt (omega arith)
+pub before-last-none : (n l : ℕ) → zero < n → l ≤ n → beforeLast n l ≡ 0
+unfolding beforeLast
+before-last-none n l p h = div-eq-of-lt (omega arith)
 
-pub whole-more : (n l : ℕ) → zero < n → n < l → whole n l ≡ suc (whole n (l - n))
-unfolding whole
-whole-more n l p h =
+pub before-last-more : (n l : ℕ) → zero < n → n < l → beforeLast n l ≡ suc (beforeLast n (l - n))
+unfolding beforeLast
+before-last-more n l p h =
     let e : l - 1 - n ≡ l - n - 1 = omega arith in
     div-eq-sub-div p (omega arith) ∙ add-one ((l - 1 - n) / n) ∙ ap (λ (k : ℕ). suc (k / n)) e
 
 -- the bytes of the last block
-pub whole-cut : (n l : ℕ) → zero < n → zero < l → (r : ℕ) × (l ≡ whole n l * n + r) × (zero < r) × (r ≤ n)
-unfolding whole
-whole-cut n l p h =
+pub before-last-cut : (n l : ℕ) → zero < n → zero < l → (r : ℕ) × (l ≡ beforeLast n l * n + r) × (zero < r) × (r ≤ n)
+unfolding beforeLast
+before-last-cut n l p h =
     let q : (l - 1) / n * n + (l - 1) % n ≡ l - 1 = div-add-mod' (l - 1) n in
     let k : (l - 1) % n < n = mod-lt (l - 1) p in
     (suc ((l - 1) % n), omega arith, omega arith, omega arith)
@@ -38,35 +38,35 @@ module _ {St : Type 0} (n : ℕ) (M : Mode St) (p : zero < n) where
 
   pub walk-last : (noM : Bool) (s : St) (a : List ℕ) → length a ≤ n → walk n M noM s a ≡ M .headLast noM (full n (length a)) s (pad n a)
   unfolding walk walkFrom
-  walk-last noM s a h = ap (λ (m : ℕ). walkFrom n M m noM s a) (whole-last n (length a) p h)
+  walk-last noM s a h = ap (λ (m : ℕ). walkFrom n M m noM s a) (before-last-none n (length a) p h)
 
   pub walk-more : (noM : Bool) (s : St) (a : List ℕ) → n < length a → walk n M noM s a ≡ walk n M noM (M .head s (take n a)) (drop n a)
   unfolding walk walkFrom
   walk-more noM s a h =
-      ap (λ (m : ℕ). walkFrom n M m noM s a) (whole-more n (length a) p h)
-      ∙ ap (λ (l : ℕ). walkFrom n M (suc (whole n l)) noM s a) (sym (length-drop n a))
+      ap (λ (m : ℕ). walkFrom n M m noM s a) (before-last-more n (length a) p h)
+      ∙ ap (λ (l : ℕ). walkFrom n M (suc (beforeLast n l)) noM s a) (sym (length-drop n a))
 
   pub seal-rest-last : (s : St) (b : List ℕ) → length b ≤ n → sealRest n M s b ≡ sealLast n M s b
   unfolding sealRest sealFrom
-  seal-rest-last s b h = ap (λ (m : ℕ). sealFrom n M m s b) (whole-last n (length b) p h)
+  seal-rest-last s b h = ap (λ (m : ℕ). sealFrom n M m s b) (before-last-none n (length b) p h)
 
   pub seal-rest-more : (s : St) (b : List ℕ) → n < length b
       → sealRest n M s b ≡ M .out s (take n b) ++ sealRest n M (M .next s (take n b)) (drop n b)
   unfolding sealRest sealFrom
   seal-rest-more s b h =
-      ap (λ (m : ℕ). sealFrom n M m s b) (whole-more n (length b) p h)
-      ∙ ap (λ (l : ℕ). sealFrom n M (suc (whole n l)) s b) (sym (length-drop n b))
+      ap (λ (m : ℕ). sealFrom n M m s b) (before-last-more n (length b) p h)
+      ∙ ap (λ (l : ℕ). sealFrom n M (suc (beforeLast n l)) s b) (sym (length-drop n b))
 
   pub open-rest-last : (s : St) (c : List ℕ) → length c ≤ n + n → openRest n M s c ≡ openLast n M s c
   unfolding openRest openFrom
-  open-rest-last s c h = ap (λ (m : ℕ). openFrom n M m s c) (whole-last n (length c - n) p (omega arith))
+  open-rest-last s c h = ap (λ (m : ℕ). openFrom n M m s c) (before-last-none n (length c - n) p (omega arith))
 
   pub open-rest-more : (s : St) (c : List ℕ) → n + n < length c
       → openRest n M s c ≡ before (M .back s (take n c)) (openRest n M (M .backNext s (take n c)) (drop n c))
   unfolding openRest openFrom
   open-rest-more s c h =
-      ap (λ (m : ℕ). openFrom n M m s c) (whole-more n (length c - n) p (omega arith))
-      ∙ ap (λ (l : ℕ). openFrom n M (suc (whole n (l - n))) s c) (sym (length-drop n c))
+      ap (λ (m : ℕ). openFrom n M m s c) (before-last-more n (length c - n) p (omega arith))
+      ∙ ap (λ (l : ℕ). openFrom n M (suc (beforeLast n (l - n))) s c) (sym (length-drop n c))
 
 module _ {St : Type 0} (n : ℕ) (M : Mode St) where
   -- ---- a whole header, body or run

@@ -9,8 +9,8 @@ use lib.ListN.{take, replicate}
 
 -- X_1 .. X_x, X_*: how many blocks stand before the last one, of a string of l bytes. The last one has 1 to n bytes; a string of
 -- whole blocks ends in a full one. (The paper prints a floor where a short last block needs the ceiling.)
-unfoldable pub whole : ℕ → ℕ → ℕ
-whole n l = (l - 1) / n
+unfoldable pub beforeLast : ℕ → ℕ → ℕ
+beforeLast n l = (l - 1) / n
 
 -- is a last block of l bytes full
 abbrev pub full : ℕ → ℕ → Bool

@@ -6,7 +6,7 @@ use mathlib.Core.Bool.{Bool, true, false, not, _&&_, cond}
 use mathlib.Core.List.{List, [], _++_}
 use lib.Dec.{eqb}
 use lib.ListN.{length, take, drop}
-use Rattle.modes.specs.Blocks.{whole, full, none, ten, pad, same}
+use Rattle.modes.specs.Blocks.{beforeLast, full, none, ten, pad, same}
 
 -- A mode under one key and nonce. St is what it carries from block to block; every block has n bytes. noM says that the body is
 -- empty, and `full` of a last block that it was not padded.
@@ -69,7 +69,7 @@ module _ {St : Type 0} (n : ℕ) (M : Mode St) where
   walkFrom (suc m) noM s a = walkFrom m noM (M .head s (take n a)) (drop n a)
 
   unfoldable pub walk : Bool → St → List ℕ → St
-  walk noM s a = walkFrom (whole n (length a)) noM s a
+  walk noM s a = walkFrom (beforeLast n (length a)) noM s a
 
   -- "Do nothing if A = ε, M ≠ ε" (enc 18, and 20); where both are empty, one padded empty block (enc 14, and 16)
   unfoldable pub headed : Bool → List ℕ → St
@@ -88,7 +88,7 @@ module _ {St : Type 0} (n : ℕ) (M : Mode St) where
   sealFrom (suc m) s b = M .out s (take n b) ++ sealFrom m (M .next s (take n b)) (drop n b)
 
   unfoldable pub sealRest : St → List ℕ → List ℕ
-  sealRest s b = sealFrom (whole n (length b)) s b
+  sealRest s b = sealFrom (beforeLast n (length b)) s b
 
   unfoldable pub sealRun : List ℕ → List ℕ → List ℕ
   sealRun header body =
@@ -109,7 +109,7 @@ module _ {St : Type 0} (n : ℕ) (M : Mode St) where
   openFrom (suc m) s c = before (M .back s (take n c)) (openFrom m (M .backNext s (take n c)) (drop n c))
 
   unfoldable pub openRest : St → List ℕ → Opened
-  openRest s c = openFrom (whole n (length c - n)) s c
+  openRest s c = openFrom (beforeLast n (length c - n)) s c
 
   -- a run of one block has an empty body (dec 34 and 35, and 31 and 32); a shorter one never comes here
   unfoldable pub openRun : List ℕ → List ℕ → Opened

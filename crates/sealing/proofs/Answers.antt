@@ -23,8 +23,8 @@ told-passed : (k k′ : ℕ) (t : Told) (room : List ℕ) → k ≡ k′ → k �
 told-passed k k′ t room e z = sym (ap (λ (j : ℕ). passed j t room) (sym e ∙ z))
 
 -- the key as `front` made it
-pub key-whole : (key K : List ℕ) → length key ≡ 16 → K ≡ take 16 key ++ replicate (16 - 16) 0 → K ≡ key
-key-whole key K l e = e ∙ ap (λ (x : List ℕ). x ++ replicate (16 - 16) 0) (take-all 16 key (omega (arith, l))) ∙ append-nil key
+pub key-same : (key K : List ℕ) → length key ≡ 16 → K ≡ take 16 key ++ replicate (16 - 16) 0 → K ≡ key
+key-same key K l e = e ∙ ap (λ (x : List ℕ). x ++ replicate (16 - 16) 0) (take-all 16 key (omega (arith, l))) ∙ append-nil key
 
 module _ (s : Scheme) (key nonce header : List ℕ) (N : ℕ) (size : N ≡ blockOf (s .cipher)) (number : ℕ) where
   abbrev n : ℕ

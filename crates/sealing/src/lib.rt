@@ -8,7 +8,7 @@ use checks::check;
 use schemes::Named;
 use schemes::Scheme;
 use schemes::scheme_of;
-use walks::whole;
+use walks::records;
 ghost use mathlib.Core.Path.{_≡_};
 ghost use Prim.Native.Nat.{_-_};
 ghost use Rattle.sealing.specs.Schemes.{Fits};
@@ -48,7 +48,7 @@ fn seal_under(
     if number != 0 {
         return Answer { number, length: 0 };
     }
-    whole::seal(c, k, front(key, 16), nonce, header, body, room);
+    records::seal(c, k, front(key, 16), nonce, header, body, room);
     Answer {
         number: 0,
         length: body.len() + n,
@@ -116,7 +116,7 @@ fn open_under(
     if number != 0 {
         return Answer { number, length: 0 };
     }
-    if whole::open(c, k, front(key, 16), nonce, header, sealed, room) {
+    if records::open(c, k, front(key, 16), nonce, header, sealed, room) {
         return Answer {
             number: 0,
             length: l,

@@ -1,8 +1,8 @@
+mod FromHeader
 mod Going
 mod Opened
 mod Places
 mod Sealed
 mod Turned
 mod Walked
-mod Wholes
 mod Writing

@@ -166,11 +166,11 @@ module _ (k : Kind) (c : Cipher) (key nonce run : List ℕ) (start : State) (roo
     abbrev left : List ℕ
     left = take (length room - at) (drop at room)
 
-    abbrev whole : List ℕ → List ℕ
-    whole ys = take at room ++ (ys ++ drop (length room - at) (drop at room))
+    abbrev after : List ℕ → List ℕ
+    after ys = take at room ++ (ys ++ drop (length room - at) (drop at room))
 
     more : (s′ : State) (ys : List ℕ) → at + size + size < length run → length run ≤ length room₀ + size
-        → Turned k c (mode .back) (mode .backNext) s lent left s′ ys → OpenGoing s′ (at + size) (whole ys)
+        → Turned k c (mode .back) (mode .backNext) s lent left s′ ys → OpenGoing s′ (at + size) (after ys)
     more s′ ys h f t =
         let x = take size (drop at run) in
         let y = mode .back here (take size lent) in
@@ -193,8 +193,8 @@ module _ (k : Kind) (c : Cipher) (key nonce run : List ℕ) (start : State) (roo
             (omega (arith, g .number), omega arith, omega arith)
 
         pub opening-more : (s′ : State) (ys : List ℕ) → Turned k c (mode .back) (mode .backNext) s lent left s′ ys
-            → OpenGoing s′ (at + m) (whole ys)
-        opening-more s′ ys t = subst⁻¹ (λ (j : ℕ). OpenGoing s′ (at + j) (whole ys)) em (more s′ ys (omega (arith, h, em)) f t)
+            → OpenGoing s′ (at + m) (after ys)
+        opening-more s′ ys t = subst⁻¹ (λ (j : ℕ). OpenGoing s′ (at + j) (after ys)) em (more s′ ys (omega (arith, h, em)) f t)
 
       -- what the end requires, and what it comes to
       module _ (h : length run - m - at ≤ m) where
@@ -212,7 +212,7 @@ module _ (k : Kind) (c : Cipher) (key nonce run : List ℕ) (start : State) (roo
             ∙ open-end size mode (block-some c) here run at done all o (omega arith)
 
         pub opening-end : (is : Bool) (ys : List ℕ) → Ended k c key nonce s lent left is ys
-            → (is ≡ all .authentic) × ((whole ys ≡ all .body ++ drop (length run - size) room₀) × (length (all .body) ≡ length run - size))
+            → (is ≡ all .authentic) × ((after ys ≡ all .body ++ drop (length run - size) room₀) × (length (all .body) ≡ length run - size))
         opening-end is ys e =
             let i = g .inside in
             let p = part-long at run in

@@ -28,5 +28,5 @@ part-long at l = ap length (part-rest at l) ∙ length-drop at l
 pub loaded : (N n : ℕ) (x part : List ℕ) → N ≡ n → take N x ≡ pad N part → take n x ≡ pad n part
 loaded N n x part e h = subst (λ (m : ℕ). take m x ≡ pad m part) e h
 
-pub loaded-whole : (N n : ℕ) (x part : List ℕ) → N ≡ n → take N x ≡ pad N part → n ≤ length part → take n x ≡ take n part
-loaded-whole N n x part e h l = loaded N n x part e h ∙ pad-long n part l
+pub loaded-full : (N n : ℕ) (x part : List ℕ) → N ≡ n → take N x ≡ pad N part → n ≤ length part → take n x ≡ take n part
+loaded-full N n x part e h l = loaded N n x part e h ∙ pad-long n part l

@@ -14,7 +14,7 @@ use Rattle.steps.specs.declared.Kind.{Kind}
 use Rattle.steps.specs.declared.State.{State}
 use Rattle.steps.specs.Modes.{Carried, stateOf}
 use Rattle.steps.specs.Steps.{Stepped}
-use Rattle.walks.proofs.Places.{loaded-whole}
+use Rattle.walks.proofs.Places.{loaded-full}
 
 -- the front of a part, worked into a rest
 module _ (k : Kind) (c : Cipher) (f : Carried k → List ℕ → List ℕ) (g : Carried k → List ℕ → Carried k) (s : State) (part old : List ℕ) where
@@ -34,7 +34,7 @@ module _ (k : Kind) (c : Cipher) (f : Carried k → List ℕ → List ℕ) (g : 
   pub turned : (N : ℕ) (x out : List ℕ) (next : State) (new : List ℕ) → N ≡ n → take N x ≡ pad N part
       → Stepped k n f g s x out next → new ≡ take N out ++ drop N old → n ≤ length part → Turned next new
   turned N x out next new size ld t put h =
-      let e : take n x ≡ take n part = loaded-whole N n x part size ld h in
+      let e : take n x ≡ take n part = loaded-full N n x part size ld h in
       let o : take n out ≡ f st (take n part) = t .out-is ∙ ap (f st) e in
       let l : length (take n out) ≡ n = length-take-le n out (omega (arith, t .long, block-most c)) in (
         (t .next-is ∙ ap (g st) e, t .number),

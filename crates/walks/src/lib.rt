@@ -1,8 +1,8 @@
 // The walks: over a header, over a body to be sealed, over a run to be opened, block by block. They know no mode.
 pub mod headers;
 pub mod opening;
+pub mod records;
 pub mod sealing;
-pub mod whole;
 
 ghost use mathlib.Core.Path.{_≡_};
 ghost use Rattle.modes.specs.Blocks.{full};

@@ -1,8 +1,8 @@
--- `blocks::load` meets its contract: a short part by `load-short`, any other by `load-whole`.
+-- `blocks::load` meets its contract: a short part by `load-short`, any other by `load-full`.
 -- Assumes nothing.
 use borrow.Author.Needs.{needs}
 use native.Mathlib.Omega.{arith}
-use Rattle.blocks.proofs.Loaded.{load-whole, load-short}
+use Rattle.blocks.proofs.Loaded.{load-full, load-short}
 use Rattle.blocks.proofs.load.Statement.{statement}
 use Rattle.blocks.proofs.load.Tie as tie
 
@@ -19,7 +19,7 @@ front-requires-2 : tie.Need-front-requires-2
 front-requires-2 c κs = search needs
 
 returns-2 : tie.Need-returns-2
-returns-2 c = rw (c .front2 .ensures) (load-whole _ _ _ (omega arith))
+returns-2 c = rw (c .front2 .ensures) (load-full _ _ _ (omega arith))
 
 pub load-spec : {M : Type 1} → statement M
 load-spec = tie.close (tie.spec front-requires array-write-b returns front-requires-2 returns-2)

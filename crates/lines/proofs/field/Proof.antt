@@ -59,8 +59,8 @@ returns c =
     let told = c .before .before .decimal .ensures in
     let n = field-length _ _ _ (l .inv .0) told in
     let e : l .i ≡ c .before .before .decimal .result = omega arith in
-    let whole = laid-more (rw e at (l .inv .2)) (field-space _ _ _ (l .inv .0) told) (omega arith) (omega arith) in
-    (omega arith, (sym n, laid-front whole n refl))
+    let laid = laid-more (rw e at (l .inv .2)) (field-space _ _ _ (l .inv .0) told) (omega arith) (omega arith) in
+    (omega arith, (sym n, laid-front laid n refl))
 
 pub field-spec : {M : Type 1} → statement M
 field-spec =

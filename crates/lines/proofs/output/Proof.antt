@@ -28,8 +28,8 @@ returns : tie.Need-returns Inv-loop μ-loop
 returns c =
     let text = c .before .before .before .args .text .now in
     let dash = laid-more (laid-none (45 ∷ 10 ∷ []) text) refl (omega arith) (omega arith) in
-    let whole = laid-more dash refl (omega arith) (omega arith) in
-    rw (output-none _ (c .if1 .taken)) (omega arith, (refl, laid-front whole refl refl))
+    let laid = laid-more dash refl (omega arith) (omega arith) in
+    rw (output-none _ (c .if1 .taken)) (omega arith, (refl, laid-front laid refl refl))
 
 loop-holds : tie.Need-loop-holds Inv-loop μ-loop
 loop-holds c = (omega arith, omega arith, laid-none _ _)
@@ -88,8 +88,8 @@ returns-2 c =
     let bytes = c .before .before .before .before .before .args .bytes .now in
     let n = ended-length bytes in
     let t : length (ended bytes) ≡ l .at + 1 = omega arith in
-    let whole = laid-more (l .inv .2) (ended-end bytes (l .at) (omega arith)) (omega arith) (omega arith) in
-    rw (output-some bytes (c .before .before .if1 .left)) (omega arith, (sym t, laid-front whole t refl))
+    let laid = laid-more (l .inv .2) (ended-end bytes (l .at) (omega arith)) (omega arith) (omega arith) in
+    rw (output-some bytes (c .before .before .if1 .left)) (omega arith, (sym t, laid-front laid t refl))
 
 pub output-spec : {M : Type 1} → statement M
 output-spec =

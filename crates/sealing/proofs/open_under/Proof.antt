@@ -5,7 +5,7 @@ use lib.ListN.{length}
 use borrow.Author.Tests.{ltb-false}
 use Rattle.ciphers.proofs.Laws.{block-most}
 use Rattle.sealing.proofs.Passed.{check-passed, check-long}
-use Rattle.sealing.proofs.Answers.{key-whole, open-refuses, open-does, open-forges}
+use Rattle.sealing.proofs.Answers.{key-same, open-refuses, open-does, open-forges}
 use borrow.Author.Needs.{needs}
 use Rattle.sealing.proofs.open_under.Statement.{statement}
 use Rattle.sealing.proofs.open_under.Tie as tie
@@ -72,7 +72,7 @@ returns-2 c =
     let p = check-passed (a .s) _ _ _ _ _ _ _ (sym (after-check .check .ensures) ∙ test .if1 .left) in
     open-does (a .s) (a .key .now) (a .nonce .now) (a .header .now) _ (after-block-of .block-of .ensures) _ (a .sealed .now)
     (a .room .now) _ _ (after-body-of .body-of .ensures) refl (after-check .check .ensures)
-    (test .if1 .left) _ (key-whole (a .key .now) _ (omega (arith, p .key-is, start .pre .key)) (after-front .front .ensures)) _ _
+    (test .if1 .left) _ (key-same (a .key .now) _ (omega (arith, p .key-is, start .pre .key)) (after-front .front .ensures)) _ _
     (after-open .«open» .ensures .0) (after-open .«open» .ensures .1 .0) (c .if2 .taken)
 
 clear-requires : tie.Need-clear-requires
@@ -102,7 +102,7 @@ returns-3 c =
     let p = check-passed (a .s) _ _ _ _ _ _ _ (sym (after-check .check .ensures) ∙ test .if1 .left) in
     open-forges (a .s) (a .key .now) (a .nonce .now) (a .header .now) _ (after-block-of .block-of .ensures) _ (a .sealed .now)
     (a .room .now) _ _ (after-body-of .body-of .ensures) refl (after-check .check .ensures)
-    (test .if1 .left) _ (key-whole (a .key .now) _ (omega (arith, p .key-is, start .pre .key)) (after-front .front .ensures)) _ _
+    (test .if1 .left) _ (key-same (a .key .now) _ (omega (arith, p .key-is, start .pre .key)) (after-front .front .ensures)) _ _
     (after-open .«open» .ensures .0) (after-open .«open» .ensures .1 .0) (test2 .if2 .left) _ (after-open .«open» .ensures .1 .1)
     (after-clear .clear .ensures)
 

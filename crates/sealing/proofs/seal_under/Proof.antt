@@ -3,7 +3,7 @@ use mathlib.Core.Path.{sym, _∙_}
 use native.Mathlib.Omega.{arith}
 use Rattle.ciphers.proofs.Laws.{block-most}
 use Rattle.sealing.proofs.Passed.{check-passed}
-use Rattle.sealing.proofs.Answers.{key-whole, seal-refuses, seal-does}
+use Rattle.sealing.proofs.Answers.{key-same, seal-refuses, seal-does}
 use borrow.Author.Needs.{needs}
 use Rattle.sealing.proofs.seal_under.Statement.{statement}
 use Rattle.sealing.proofs.seal_under.Tie as tie
@@ -71,7 +71,7 @@ returns-2 c =
     let p = check-passed (a .s) _ _ _ _ _ _ _ (sym (after-check .check .ensures) ∙ test .if1 .left) in
     seal-does (a .s) (a .key .now) (a .nonce .now) (a .header .now) _ (after-block-of .block-of .ensures) _ (a .body .now)
     (a .room .now) (after-check .check .ensures) (test .if1 .left) _ _
-    (key-whole (a .key .now) _ (omega (arith, p .key-is, start .pre .key)) (after-front .front .ensures))
+    (key-same (a .key .now) _ (omega (arith, p .key-is, start .pre .key)) (after-front .front .ensures))
     (after-seal .seal .ensures)
 
 pub seal-under-spec : {M : Type 1} → statement M

@@ -4,7 +4,7 @@ use native.Mathlib.Omega.{arith}
 use Rattle.ciphers.proofs.Laws.{block-most}
 use Rattle.ciphers.specs.Ciphers.{blockOf}
 use Rattle.steps.specs.Modes.{modeOf, stateOf}
-use Rattle.walks.proofs.Places.{loaded-whole}
+use Rattle.walks.proofs.Places.{loaded-full}
 use borrow.Author.Needs.{needs}
 use Rattle.walks.proofs.headers.turn.Statement.{statement}
 use Rattle.walks.proofs.headers.turn.Tie as tie
@@ -23,7 +23,7 @@ returns c =
     let after-block-of = c .before .before in
     let start = after-block-of .before .before .before in
     let a = start .args in
-    let l = loaded-whole _ (blockOf (a .c)) _ (a .part .now) (after-block-of .block-of .ensures) (c .before .load .ensures)
+    let l = loaded-full _ (blockOf (a .c)) _ (a .part .now) (after-block-of .block-of .ensures) (c .before .load .ensures)
     (start .pre .2) in (
       c .head .ensures .0 ∙ ap
           (modeOf (a .k) (a .c) (a .key) (a .nonce .now) .head (stateOf (a .k) (blockOf (a .c)) (a .s))) l,

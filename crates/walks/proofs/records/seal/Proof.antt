@@ -1,12 +1,12 @@
--- `walks::whole::seal` meets its contract: the header, and then one block or the walk over the body. Assumes nothing.
+-- `walks::records::seal` meets its contract: the header, and then one block or the walk over the body. Assumes nothing.
 use native.Mathlib.Omega.{arith}
 use Rattle.ciphers.proofs.Laws.{block-most}
 use Rattle.ciphers.specs.Ciphers.{blockOf}
 use Rattle.steps.specs.Modes.{modeOf}
-use Rattle.walks.proofs.Wholes.{seal-none, seal-some}
+use Rattle.walks.proofs.FromHeader.{seal-none, seal-some}
 use borrow.Author.Needs.{needs}
-use Rattle.walks.proofs.whole.seal.Statement.{statement}
-use Rattle.walks.proofs.whole.seal.Tie as tie
+use Rattle.walks.proofs.records.seal.Statement.{statement}
+use Rattle.walks.proofs.records.seal.Tie as tie
 
 head-requires : tie.Need-head-requires
 head-requires c κs = search needs

@@ -1,14 +1,14 @@
--- `walks::whole::open` meets its contract: the header, and then one block or the walk over the run. Assumes nothing.
+-- `walks::records::open` meets its contract: the header, and then one block or the walk over the run. Assumes nothing.
 use Prim.Native.Nat.{_<_}
 use native.Mathlib.Omega.{arith}
 use lib.ListN.{length, length-take}
 use Rattle.ciphers.proofs.Laws.{block-most}
 use Rattle.ciphers.specs.Ciphers.{blockOf}
 use Rattle.steps.specs.Modes.{modeOf}
-use Rattle.walks.proofs.Wholes.{open-none, open-none-room, open-none-long, open-some, open-some-room, open-some-long}
+use Rattle.walks.proofs.FromHeader.{open-none, open-none-room, open-none-long, open-some, open-some-room, open-some-long}
 use borrow.Author.Needs.{needs}
-use Rattle.walks.proofs.whole.open.Statement.{statement}
-use Rattle.walks.proofs.whole.open.Tie as tie
+use Rattle.walks.proofs.records.open.Statement.{statement}
+use Rattle.walks.proofs.records.open.Tie as tie
 
 block-of-requires : tie.Need-block-of-requires
 block-of-requires c κs = search needs

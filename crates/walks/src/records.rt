@@ -1,4 +1,4 @@
-// A whole record: its header, and then its body or its run.
+// A record: its header, and then its body or its run.
 use crate::headers::head;
 use crate::opening;
 use crate::sealing;

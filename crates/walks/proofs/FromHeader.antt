@@ -1,4 +1,4 @@
--- A whole record from what its header leaves: an empty body, or the rest. Assumes nothing.
+-- A record from what its header leaves: an empty body, or the rest. Assumes nothing.
 use mathlib.Core.Path.{_≡_, sym, ap, _∙_}
 use mathlib.Core.Bool.{Bool, true, false}
 use mathlib.Core.List.{List, _++_}
