@@ -1,7 +1,9 @@
 pub mod Bytes
+pub mod Choice
 pub mod Ends
 pub mod Exact
 pub mod PaefLaws
+pub mod PaefTweaks
 pub mod Rest
 pub mod SaefLaws
 pub mod Turn

@@ -4,3 +4,4 @@ pub mod Lawful
 pub mod Mode
 pub mod Paef
 pub mod Saef
+pub mod Tweaks

@@ -1,6 +1,5 @@
 pub mod Admitted
 mod Answers
-pub mod Choice
 pub mod Demands
 pub mod Exactly
 pub mod Passed

@@ -1,0 +1,200 @@
+-- Thirteen bits of number are enough for PAEF: where header and body have at most 8,191 blocks each, no two blocks of one record are
+-- worked under the same tweak.
+--     same-tweak   a tweak tells its flag and its number
+--     Numbered     the i-th entry of a list is the tweak of number i + 1, with a flag between two bounds
+--     distinct     two such lists whose flags are apart
+-- Assumes nothing.
+use mathlib.Core.Path.{_≡_, refl, sym, ap, _∙_, subst}
+use Prim.Native.Nat.{ℕ, zero, suc, _+_, _-_, _*_, _/_, _%_, _≤_, _<_}
+use native.Mathlib.Nat.{div-lt-iff-lt-mul}
+use native.Mathlib.Omega.{arith}
+use native.Mathlib.Decide.{decLt}
+use mathlib.Core.Bool.{Bool, true, false, not, _&&_}
+use mathlib.Core.List.{List, [], _∷_, _++_}
+use lib.ListN.{length, take, drop, getD, length-append, List·getD-append}
+use lib.Seq.{drop-at, getD-append-add}
+use Rattle.modes.specs.Blocks.{beforeLast, none}
+use Rattle.modes.specs.Forkcipher.{Fork}
+use Rattle.modes.specs.Mode.{walkFrom, walk, headed}
+use Rattle.modes.specs.Paef.{Sum, be16, paefTweak, paefHead, paefBody, sumTweak, paef}
+use Rattle.modes.specs.Tweaks.{alongFrom, along, headTweaks, bodyTweaks, paefTweaks, Distinct}
+use Rattle.modes.proofs.Choice.{either}
+use Rattle.modes.proofs.Rest.{before-last-none}
+
+-- ---- a tweak tells its flag and its number
+
+same-bytes : (v w : ℕ) → v < 65536 → w < 65536 → v / 256 % 256 ≡ w / 256 % 256 → v % 256 ≡ w % 256 → v ≡ w
+same-bytes v w hv hw high low = omega arith
+
+same-tweak : (nonce : List ℕ) (f g i j : ℕ) → f ≤ 7 → g ≤ 7 → i ≤ 8191 → j ≤ 8191 → paefTweak nonce f i ≡ paefTweak nonce g j → (f ≡ g) × (i ≡ j)
+unfolding paefTweak be16
+same-tweak nonce f g i j hf hg hi hj e =
+    let tail : be16 (f * 8192 + i) ≡ be16 (g * 8192 + j)
+    = sym (drop-at nonce (be16 (f * 8192 + i)) (length nonce) refl) ∙ ap (drop (length nonce)) e ∙ drop-at nonce (be16 (g * 8192 + j)) (length nonce) refl in
+    let v : f * 8192 + i ≡ g * 8192 + j
+    = same-bytes (f * 8192 + i) (g * 8192 + j) (omega arith) (omega arith) (ap (λ (l : List ℕ). getD l 0 0) tail) (ap (λ (l : List ℕ). getD l 1 0) tail) in
+    (omega arith, omega arith)
+
+-- ---- tweaks in a row
+
+-- of at most 8,191 blocks, fewer stand before the last
+before-few : (n l : ℕ) → zero < n → l ≤ 8191 * n → beforeLast n l < 8191
+unfolding beforeLast
+before-few n l p h = div-lt-iff-lt-mul {k = n} {x = l - 1} {y = 8191} p .1 (omega arith)
+
+module _ (nonce : List ℕ) where
+  pub record Numbered (low high : ℕ) (from : ℕ) (ts : List (List ℕ)) : Type 0 where
+    pub at : (i : ℕ) → i < length ts → (flag : ℕ) × (low ≤ flag) × (flag ≤ high) × (getD ts i [] ≡ paefTweak nonce flag (from + i))
+
+  -- numbered from 1, and at most 8,191
+  abbrev Few : (low high : ℕ) → List (List ℕ) → Type 0
+  Few low high ts = Numbered low high 1 ts × (length ts ≤ 8191)
+
+  numbered-none : (low high from : ℕ) → Numbered low high from []
+  numbered-none low high from = record { at = λ i h. absurd (omega arith) }
+
+  few-none : (low high : ℕ) → Few low high []
+  few-none low high = (numbered-none low high 1, omega arith)
+
+  numbered-more : (low high from flag : ℕ) (ts : List (List ℕ)) → low ≤ flag → flag ≤ high → Numbered low high (from + 1) ts
+      → Numbered low high from (paefTweak nonce flag from ∷ ts)
+  numbered-more low high from flag ts hl hh t = record { at = go }
+    where
+      go : (i : ℕ) → i < length (paefTweak nonce flag from ∷ ts)
+          → (flag′ : ℕ) × (low ≤ flag′) × (flag′ ≤ high) × (getD (paefTweak nonce flag from ∷ ts) i [] ≡ paefTweak nonce flag′ (from + i))
+      go zero h = (flag, hl, hh, ap (paefTweak nonce flag) (omega arith))
+      go (suc i) h =
+          let (g, gl, gh, e) = t .at i (omega arith) in
+          let n : from + 1 + i ≡ from + suc i = omega arith in
+          (g, gl, gh, e ∙ ap (paefTweak nonce g) n)
+
+  -- along a walk whose steps count on
+  module _ (n low high : ℕ) (step : Sum → List ℕ → Sum) (flag : ℕ) (last : Bool → ℕ) (hl : low ≤ flag) (hh : flag ≤ high)
+      (ll : (f : Bool) → low ≤ last f) (lh : (f : Bool) → last f ≤ high) (counts : (s : Sum) (x : List ℕ) → step s x .number ≡ s .number + 1) where
+    abbrev T : ℕ → Sum → List ℕ
+    T f s = paefTweak nonce f (s .number)
+
+    along-numbered : (m : ℕ) (s : Sum) (x : List ℕ) → Numbered low high (s .number) (alongFrom n step (T flag) (λ f. T (last f)) m s x)
+    unfolding alongFrom
+    along-numbered zero s x = numbered-more low high (s .number) _ [] (ll _) (lh _) (numbered-none low high (s .number + 1))
+    along-numbered (suc m) s x =
+        numbered-more low high (s .number) flag _ hl hh
+        (rw (← counts s (take n x)) (along-numbered m (step s (take n x)) (drop n x)))
+
+    along-long : (m : ℕ) (s : Sum) (x : List ℕ) → length (alongFrom n step (T flag) (λ f. T (last f)) m s x) ≡ suc m
+    unfolding alongFrom
+    along-long zero s x = refl
+    along-long (suc m) s x = ap suc (along-long m (step s (take n x)) (drop n x))
+
+    along-few : (s : Sum) (x : List ℕ) → s .number ≡ 1 → zero < n → length x ≤ 8191 * n → Few low high (along n step (T flag) (λ f. T (last f)) s x)
+    unfolding along
+    along-few s x e p h =
+        let m : ℕ = beforeLast n (length x) in (
+          subst (λ (k : ℕ). Numbered low high k (alongFrom n step (T flag) (λ f. T (last f)) m s x)) e (along-numbered m s x),
+          omega (arith, before-few n (length x) p h, along-long m s x),
+        )
+
+  -- the header's, with flags up to 3, and the body's, with flags from 4 on
+  module _ (hs bs : List (List ℕ)) (h : Few 0 3 hs) (b : Few 4 7 bs) where
+    -- the entry at i: of the header, or of the body behind it
+    pub record Entry (i low high number : ℕ) : Type 0 where
+      pub flag : ℕ
+      pub above : low ≤ flag
+      pub below : flag ≤ high
+      pub some : number ≤ 8191
+      pub is : getD (hs ++ bs) i [] ≡ paefTweak nonce flag number
+
+    entry-head : (i : ℕ) → i < length hs → Entry i 0 3 (1 + i)
+    entry-head i l =
+        let (f, fl, fh, e) = h .0 .at i l in
+        record { flag = f; above = fl; below = fh; some = omega arith; is = List·getD-append hs bs [] i l ∙ e }
+
+    entry-body : (i : ℕ) → length hs ≤ i → i < length (hs ++ bs) → Entry i 4 7 (1 + (i - length hs))
+    entry-body i l u =
+        let k : i - length hs < length bs = omega (arith, length-append hs bs) in
+        let (f, fl, fh, e) = b .0 .at (i - length hs) k in
+        let at : i ≡ length hs + (i - length hs) = omega arith in
+        record {
+          flag = f;
+          above = fl;
+          below = fh;
+          some = omega arith;
+          is = ap (λ (j : ℕ). getD (hs ++ bs) j []) at ∙ getD-append-add hs bs (i - length hs) [] ∙ e;
+        }
+
+    meet : {i j low high low′ high′ p q : ℕ} → Entry i low high p → Entry j low′ high′ q → high ≤ 7 → high′ ≤ 7
+        → getD (hs ++ bs) i [] ≡ getD (hs ++ bs) j [] → (low ≤ high′) × (low′ ≤ high) × (p ≡ q)
+    meet {p = p} {q = q} x y u v e =
+        let (f, n) = same-tweak nonce (x .flag) (y .flag) p q (omega arith) (omega arith) (x .some) (y .some) (sym (x .is) ∙ e ∙ y .is) in
+        (omega arith, omega arith, n)
+
+    distinct : Distinct (hs ++ bs)
+    distinct = record { differ = go }
+      where
+        go : (i j : ℕ) → i < length (hs ++ bs) → j < length (hs ++ bs) → getD (hs ++ bs) i [] ≡ getD (hs ++ bs) j [] → i ≡ j
+        go i j hi hj e =
+            elim (decLt i (length hs)) [
+              | yes k ↦ elim (decLt j (length hs)) [
+                | yes l ↦ (let m = meet (entry-head i k) (entry-head j l) (omega arith) (omega arith) e in omega arith)
+                | no l ↦ (let m = meet (entry-head i k) (entry-body j (omega arith) hj) (omega arith) (omega arith) e in absurd (omega arith))
+              ]
+              | no k ↦ elim (decLt j (length hs)) [
+                | yes l ↦ (let m = meet (entry-body i (omega arith) hi) (entry-head j l) (omega arith) (omega arith) e in absurd (omega arith))
+                | no l ↦ (let m = meet (entry-body i (omega arith) hi) (entry-body j (omega arith) hj) (omega arith) (omega arith) e in omega arith)
+              ]
+            ]
+
+-- ---- the tweaks of a record
+
+head-low : (f : Bool) → 0 ≤ paefHead f
+head-low f = omega arith
+
+head-high : (f : Bool) → paefHead f ≤ 3
+unfolding paefHead
+head-high true = omega arith
+head-high false = omega arith
+
+body-low : (f : Bool) → 4 ≤ paefBody f
+unfolding paefBody
+body-low true = omega arith
+body-low false = omega arith
+
+body-high : (f : Bool) → paefBody f ≤ 7
+unfolding paefBody
+body-high true = omega arith
+body-high false = omega arith
+
+module _ (n : ℕ) (F : Fork) (nonce : List ℕ) (p : zero < n) where
+  -- the numbers begin again behind the header
+  walk-number : (m : ℕ) (noM : Bool) (s : Sum) (a : List ℕ) → walkFrom n (paef n F nonce) m noM s a .number ≡ 1
+  unfolding walkFrom paef
+  walk-number zero noM s a = refl
+  walk-number (suc m) noM s a = walk-number m noM _ (drop n a)
+
+  headed-number : (noM : Bool) (a : List ℕ) → headed n (paef n F nonce) noM a .number ≡ 1
+  unfolding headed walk paef
+  headed-number noM a =
+      either (λ (s : Sum). s .number ≡ 1) (not noM && none (length a)) _ _ refl (walk-number (beforeLast n (length a)) noM _ a)
+
+  head-few : (noM : Bool) (header : List ℕ) → length header ≤ 8191 * n → Few nonce 0 3 (headTweaks n F nonce noM header)
+  unfolding headTweaks sumTweak paef
+  head-few noM header h =
+      either (Few nonce 0 3) (not noM && none (length header)) _ _ (few-none nonce 0 3)
+      (along-few nonce n 0 3 (paef n F nonce .head) 0 paefHead (omega arith) (omega arith) head-low head-high (λ s x. refl) _ header refl p h)
+
+  body-few : (noM : Bool) (header body : List ℕ) → length body ≤ 8191 * n → Few nonce 4 7 (bodyTweaks n F nonce noM header body)
+  unfolding bodyTweaks sumTweak paef
+  body-few noM header body h =
+      either (Few nonce 4 7) noM _ _ (few-none nonce 4 7)
+      (along-few nonce n 4 7 (paef n F nonce .next) 4 paefBody (omega arith) (omega arith) body-low body-high (λ s x. refl) _ body
+      (headed-number noM header) p h)
+
+  pub paef-distinct : (header body : List ℕ) → length header ≤ 8191 * n → length body ≤ 8191 * n → Distinct (paefTweaks n F nonce header body)
+  unfolding paefTweaks
+  paef-distinct header body hh hb =
+      distinct nonce _ _ (head-few (none (length body)) header hh) (body-few (none (length body)) header body hb)
+
+  -- where header and body are empty there is one block
+  pub paef-one : length (paefTweaks n F nonce [] []) ≡ 1
+  unfolding paefTweaks headTweaks bodyTweaks along alongFrom
+  paef-one = rw (before-last-none n 0 p (omega arith))
