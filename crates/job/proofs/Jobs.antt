@@ -69,11 +69,11 @@ prints-sealed number s key nonce header body room ok b l r =
 -- an open of a run to which a body seals: the body, whatever stood in the room
 pub prints-opened
     : (number : ℕ) (s : Scheme) (key nonce header body run room : List ℕ) → Admitted number s key nonce header → Bytes run
-    → SealsTo number s key nonce header body run → length (written number 1 key nonce header run) ≤ 16384 → 16384 ≤ length room
+    → SealsTo s key nonce header body run → length (written number 1 key nonce header run) ≤ 16384 → 16384 ≤ length room
     → printed (written number 1 key nonce header run) room ≡ lineOf 0 (length body) body
 prints-opened number s key nonce header body run room ok hr t l r =
     let enough : length run ≤ length room + blockOf (s .cipher) = omega (arith, l, r, written-length number 1 key nonce header run) in
-    ap lineFor (job-opens number key nonce header run room l ∙ returned number s key nonce header run room ok hr enough body t)
+    ap lineFor (job-opens number key nonce header run room l ∙ returned number s key nonce header ok run room hr enough body t)
     ∙ done-line (length body) body room refl
 
 -- every refusal: its number, 0 and `-`

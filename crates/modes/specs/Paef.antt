@@ -17,7 +17,8 @@ pub record Sum : Type 0 where
 unfoldable pub be16 : ℕ → List ℕ
 be16 v = v / 256 % 256 ∷ v % 256 ∷ []
 
--- N, three bits of flag, thirteen of number (enc 6, 11, 15, 20, 28, 31); a scheme's limits see to it that thirteen are enough
+-- N, three bits of flag, thirteen of number (enc 6, 11, 15, 20, 28, 31); within a scheme's limits thirteen are enough, which is a theorem
+-- (`paef-distinct` in proofs/PaefTweaks.antt)
 unfoldable pub paefTweak : List ℕ → ℕ → ℕ → List ℕ
 paefTweak nonce flag number = nonce ++ be16 (flag * 8192 + number)
 

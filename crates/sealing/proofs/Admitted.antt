@@ -48,12 +48,14 @@ module _ (number : ℕ) (s : Scheme) (key nonce header : List ℕ) (ok : Admitte
 
   -- ---- the other way round: 0 is told only where no check applied
 
-  pub sealed-fits : (body room : List ℕ) → sealOf number key nonce header body room .number ≡ 0 → length body + n ≤ length room
+  pub sealed-fits : (body room : List ℕ) → sealOf number key nonce header body room .number ≡ 0
+      → (length body ≤ s .body) × (length body + n ≤ length room)
   unfolding sealUnder
   sealed-fits body room e =
       let k : checkOf s (length key) (length nonce) (length header) (length body) false n (length room) ≡ 0
       = was-passed _ _ room (rw (seal-known number s (ok .named) key nonce header body room) at e) in
-      check-passed s _ _ _ _ _ _ _ k .room-fits
+      let p = check-passed s _ _ _ _ _ _ _ k in
+      (p .body-fits, p .room-fits)
 
   pub opened-fits : (run room : List ℕ) → openOf number key nonce header run room .number ≡ 0
       → (n ≤ length run) × (length run ≤ s .body + n)

@@ -3,11 +3,12 @@
 -- the calls end and answer so is what their contracts say. Assumes nothing.
 use mathlib.Core.Path.{_≡_, refl, sym, _∙_}
 use Prim.Native.Nat.{ℕ, _+_, _-_, _≤_, _<_}
+use native.Mathlib.Omega.{arith}
 use mathlib.Core.Logic.{_↔_}
 use mathlib.Core.Bool.{false}
 use mathlib.Core.List.{List}
 use lib.Dec.{ltb}
-use lib.ListN.{length}
+use lib.ListN.{length, take}
 use Rattle.cells.specs.Cells.{Bytes, Block}
 use Rattle.ciphers.specs.declared.Cipher.{Cipher}
 use Rattle.ciphers.specs.declared.Cipher.the-variants.{N64T192, N128T256}
@@ -17,6 +18,8 @@ use Rattle.forkskinny.proofs.Conditions.{forkOne, unforkInput, unforkOther, con
 use Rattle.modes.specs.Mode.{sealRun, openRun}
 use Rattle.modes.specs.Paef.{paef}
 use Rattle.modes.specs.Saef.{saef}
+use Rattle.modes.specs.Tweaks.{paefTweaks, Distinct}
+use Rattle.modes.proofs.PaefTweaks.{paef-distinct}
 use Rattle.steps.specs.Skinny.{skinny}
 use Rattle.sealing.specs.declared.Answer.{Answer}
 use Rattle.sealing.specs.declared.schemes.Scheme.{Scheme}
@@ -27,7 +30,7 @@ use Rattle.sealing.specs.Checks.{checkOf}
 use Rattle.sealing.specs.Demands.{Admitted, SealsTo}
 use Rattle.sealing.specs.View.{viewOf}
 use Rattle.sealing.proofs.Admitted.{seal-admitted, open-admitted}
-use Rattle.sealing.proofs.Exactly.{opens-iff, one-body, body-returned, none-forged}
+use Rattle.sealing.proofs.Exactly.{seal-writes, seal-wrote, long, opens-iff, one-body, body-returned, none-forged, sealed-opens}
 use Rattle.sealing.proofs.Passed.{not-passed}
 use Rattle.sealing.proofs.Table.{seal-known, open-known, none-named}
 use Rattle.sealing.proofs.Ways.{seal-ways, open-ways, forged-named, forged-under, no-length, told-same}
@@ -129,6 +132,14 @@ module _ (key nonce header run room : List ℕ) where
       → openOf 3 key nonce header run room ≡ judged (openRun 16 (saef 16 (skinny N128T256 key) nonce) header run) (length run - 16) room
   open-3 ok l b r = open-admitted 3 scheme3 key nonce header ok run room l b r
 
+-- thirteen bits of number are enough: no two blocks of one record, header and body together, have the same tweak under PAEF
+module _ (key nonce header body : List ℕ) where
+  pub tweaks-1 : length header ≤ 65528 → length body ≤ 65528 → Distinct (paefTweaks 8 (skinny N64T192 key) nonce header body)
+  tweaks-1 = paef-distinct 8 (skinny N64T192 key) nonce (omega arith) header body
+
+  pub tweaks-2 : length header ≤ 131056 → length body ≤ 131056 → Distinct (paefTweaks 16 (skinny N128T256 key) nonce header body)
+  tweaks-2 = paef-distinct 16 (skinny N128T256 key) nonce (omega arith) header body
+
 -- a block can be taken back from either half h, and the other half comes out again
 module _ (c : Cipher) (key tweak m : List ℕ) (hk : Bytes key) (ht : Bytes tweak) (hm : Block 16 m) (h : ℕ) (two : h < 2) where
   pub half-back : unforkInput c key tweak (forkOne c key tweak m h) h ≡ counted (widthOf c) m
@@ -139,30 +150,47 @@ module _ (c : Cipher) (key tweak m : List ℕ) (hk : Bytes key) (ht : Bytes twea
 
 -- ---- demand 3: under one scheme, an admitted key, nonce and header, and a room large enough
 
-module _ (number : ℕ) (s : Scheme) (key nonce header run room : List ℕ) (ok : Admitted number s key nonce header) (hr : Bytes run)
-    (enough : length run ≤ length room + blockOf (s .cipher)) where
-  -- a run opens exactly if some body within the limit seals to it
-  pub opens-exactly : (openOf number key nonce header run room .number ≡ 0) ↔ ((body : List ℕ) × SealsTo number s key nonce header body run)
-  opens-exactly = opens-iff number s key nonce header ok run room hr enough
+module _ (number : ℕ) (s : Scheme) (key nonce header : List ℕ) (ok : Admitted number s key nonce header) where
+  -- open of what seal wrote gives back the body, in any room that takes it
+  pub round-trip : (body room room′ : List ℕ) → Bytes body → length body ≤ s .body
+      → length body + blockOf (s .cipher) ≤ length room → length body ≤ length room′
+      → let t = sealOf number key nonce header body room in
+      (t .number ≡ 0) × (openOf number key nonce header (take (t .length) (t .room)) room′ ≡ done (length body) body room′)
+  round-trip = sealed-opens number s key nonce header ok
 
-  -- that body is the only one
-  pub only-one : (a b : List ℕ) → SealsTo number s key nonce header a run → SealsTo number s key nonce header b run → a ≡ b
-  only-one = one-body number s key nonce header ok run room hr enough
+  -- seal answers just the published run
+  pub seals-exactly : (body run room : List ℕ) → Bytes body → length body + blockOf (s .cipher) ≤ length room
+      → (sealOf number key nonce header body room ≡ done (length run) run room) ↔ SealsTo s key nonce header body run
+  seals-exactly body run room b r =
+      (seal-wrote number s key nonce header ok body run room b, λ t. seal-writes number s key nonce header ok body run room t r)
 
-  -- and it is returned
-  pub returned : (body : List ℕ) → SealsTo number s key nonce header body run
-      → openOf number key nonce header run room ≡ done (length body) body room
-  returned = body-returned number s key nonce header ok run room hr enough
+  -- which has the body's length and a block, so that no other byte of the room changes
+  pub sealed-length : (body run : List ℕ) → SealsTo s key nonce header body run → length run ≡ length body + blockOf (s .cipher)
+  sealed-length = long number s key nonce header ok
 
-  -- every other run is refused
-  pub others-refused : ((body : List ℕ) → SealsTo number s key nonce header body run → ⊥)
-      → (openOf number key nonce header run room .number ≡ 0 → ⊥) × (openOf number key nonce header run room .length ≡ 0)
-  others-refused none =
-      let e : openOf number key nonce header run room .number ≡ 0 → ⊥ = λ z. let (body, t) = opens-exactly .0 z in none body t in
-      (e, no-length number key nonce header run room e)
+  module _ (run room : List ℕ) (hr : Bytes run) (enough : length run ≤ length room + blockOf (s .cipher)) where
+    -- a run opens exactly if some body within the limit seals to it
+    pub opens-exactly : (openOf number key nonce header run room .number ≡ 0) ↔ ((body : List ℕ) × SealsTo s key nonce header body run)
+    opens-exactly = opens-iff number s key nonce header ok run room hr enough
 
-  -- with 6, if it has the length of a sealed body
-  pub others-forged : ((body : List ℕ) → SealsTo number s key nonce header body run → ⊥)
-      → blockOf (s .cipher) ≤ length run → length run ≤ s .body + blockOf (s .cipher)
-      → openOf number key nonce header run room ≡ forged (length run - blockOf (s .cipher)) room
-  others-forged = none-forged number s key nonce header ok run room hr enough
+    -- that body is the only one
+    pub only-one : (a b : List ℕ) → SealsTo s key nonce header a run → SealsTo s key nonce header b run → a ≡ b
+    only-one = one-body number s key nonce header ok run room hr enough
+
+    -- and it is returned
+    pub returned : (body : List ℕ) → SealsTo s key nonce header body run
+        → openOf number key nonce header run room ≡ done (length body) body room
+    returned = body-returned number s key nonce header ok run room hr enough
+
+    -- every other run is refused
+    pub others-refused : ((body : List ℕ) → SealsTo s key nonce header body run → ⊥)
+        → (openOf number key nonce header run room .number ≡ 0 → ⊥) × (openOf number key nonce header run room .length ≡ 0)
+    others-refused none =
+        let e : openOf number key nonce header run room .number ≡ 0 → ⊥ = λ z. let (body, t) = opens-exactly .0 z in none body t in
+        (e, no-length number key nonce header run room e)
+
+    -- with 6, if it has the length of a sealed body
+    pub others-forged : ((body : List ℕ) → SealsTo s key nonce header body run → ⊥)
+        → blockOf (s .cipher) ≤ length run → length run ≤ s .body + blockOf (s .cipher)
+        → openOf number key nonce header run room ≡ forged (length run - blockOf (s .cipher)) room
+    others-forged = none-forged number s key nonce header ok run room hr enough

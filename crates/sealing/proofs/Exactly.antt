@@ -5,8 +5,8 @@ use Prim.Native.Nat.{ℕ, _+_, _-_, _≤_}
 use native.Mathlib.Omega.{arith}
 use mathlib.Core.Logic.{_↔_}
 use mathlib.Core.Bool.{Bool, true, false, cond}
-use mathlib.Core.List.{List}
-use lib.ListN.{length, take, drop, replicate, length-replicate}
+use mathlib.Core.List.{List, _++_}
+use lib.ListN.{length, take, drop}
 use lib.Seq.{take-at}
 use Rattle.cells.specs.Cells.{Bytes, Block}
 use Rattle.ciphers.specs.declared.Cipher.{Cipher}
@@ -22,7 +22,7 @@ use Rattle.steps.specs.Modes.{Carried, modeOf, tailOf}
 use Rattle.steps.specs.Skinny.{skinny}
 use Rattle.steps.proofs.Laws.{skinny-laws}
 use Rattle.sealing.specs.declared.schemes.Scheme.{Scheme}
-use Rattle.sealing.specs.Calls.{Told, done, forged, judged, sealed, opened, openOf}
+use Rattle.sealing.specs.Calls.{Told, done, forged, judged, sealed, opened, sealOf, openOf}
 use Rattle.sealing.specs.Demands.{Admitted, SealsTo}
 use Rattle.sealing.proofs.Admitted.{seal-admitted, open-admitted, sealed-fits, opened-fits}
 use Rattle.sealing.proofs.Table.{named-fits}
@@ -59,55 +59,55 @@ module _ (number : ℕ) (s : Scheme) (key nonce header : List ℕ) (ok : Admitte
   lawful =
       mode-lawful (s .kind) (s .cipher) key nonce (s .nonce) (named-fits number s (ok .named) .nonce) (ok .key-fits .bytes) (ok .nonce-fits)
 
-  pub sealed-long : (body : List ℕ) → Bytes body → length (sealed s key nonce header body) ≡ length body + n
-  sealed-long body b = seal-run-block n M Ok lawful header (ok .header-bytes) body b .long
+  sealed-block : (body : List ℕ) → Bytes body → Block (length body + n) (sealed s key nonce header body)
+  sealed-block body b = seal-run-block n M Ok lawful header (ok .header-bytes) body b
 
-  -- ---- a body seals to a run exactly if the run is what the mode makes of it
+  pub sealed-long : (body : List ℕ) → Bytes body → length (sealed s key nonce header body) ≡ length body + n
+  sealed-long body b = sealed-block body b .long
+
+  -- ---- what seal writes
 
   module _ (body run : List ℕ) where
-    -- 0 tells that the room was large enough, the length that of the run, and the front of the room is the run
-    run-is : SealsTo number s key nonce header body run → sealed s key nonce header body ≡ run
-    run-is t =
-        let y : List ℕ = sealed s key nonce header body in
-        let fits : length body + n ≤ length (t .room)
-        = sealed-fits number s key nonce header ok body (t .room) (ap (λ (u : Told). u .number) (t .sealed)) in
-        let d : done (length body + n) y (t .room) ≡ done (length run) run (t .room)
-        = sym (seal-admitted number s key nonce header ok body (t .room) (t .body-fits) fits) ∙ t .sealed in
-        let l : length y ≡ length run = sealed-long body (t .body-bytes) ∙ ap (λ (u : Told). u .length) d in
-        sym (take-at y (drop (length body + n) (t .room)) (length run) l)
-        ∙ ap (λ (u : Told). take (length run) (u .room)) d
-        ∙ take-at run (drop (length run) (t .room)) (length run) refl
+    pub long : SealsTo s key nonce header body run → length run ≡ length body + n
+    long t = sym (ap length (t .published)) ∙ sealed-long body (t .body-bytes)
 
-    -- in a room that is just large enough
-    seals-to : Bytes body → length body ≤ s .body → sealed s key nonce header body ≡ run → SealsTo number s key nonce header body run
-    seals-to b h e =
-        let room : List ℕ = replicate (length body + n) 0 in
-        let l : length body + n ≡ length run = sym (sealed-long body b) ∙ ap length e in
+    -- a body that seals to a run is sealed to it
+    pub seal-writes : (room : List ℕ) → SealsTo s key nonce header body run → length body + n ≤ length room
+        → sealOf number key nonce header body room ≡ done (length run) run room
+    seal-writes room t r =
+        seal-admitted number s key nonce header ok body room (t .body-fits) r ∙ (λ i. done (sym (long t) i) (t .published i) room)
+
+    -- and to no other: 0 tells that body and room were within the limits, the length is the run's, and the front of the room is the run
+    pub seal-wrote : (room : List ℕ) → Bytes body → sealOf number key nonce header body room ≡ done (length run) run room
+        → SealsTo s key nonce header body run
+    seal-wrote room b e =
+        let (h, r) = sealed-fits number s key nonce header ok body room (ap (λ (u : Told). u .number) e) in
+        let y : List ℕ = sealed s key nonce header body in
+        let d : done (length body + n) y room ≡ done (length run) run room = sym (seal-admitted number s key nonce header ok body room h r) ∙ e in
+        let l : length y ≡ length run = sealed-long body b ∙ ap (λ (u : Told). u .length) d in
         record {
           body-bytes = b;
           body-fits = h;
-          room = room;
-          sealed = seal-admitted number s key nonce header ok body room h (omega (arith, length-replicate {A = ℕ} (length body + n) 0))
-              ∙ (λ i. done (l i) (e i) room);
+          published =
+              sym (take-at y (drop (length body + n) room) (length run) l)
+              ∙ ap (λ (u : Told). take (length run) (u .room)) d
+              ∙ take-at run (drop (length run) room) (length run) refl;
         }
-
-    long : SealsTo number s key nonce header body run → length body + n ≡ length run
-    long t = sym (sealed-long body (t .body-bytes)) ∙ ap length (run-is t)
 
   -- ---- the demand
 
   module _ (run room : List ℕ) (hr : Bytes run) (enough : length run ≤ length room + n) where
-    pub body-returned : (body : List ℕ) → SealsTo number s key nonce header body run
+    pub body-returned : (body : List ℕ) → SealsTo s key nonce header body run
         → openOf number key nonce header run room ≡ done (length body) body room
     body-returned body t =
-        let l : length body + n ≡ length run = long body run t in
+        let l : length run ≡ length body + n = long body run t in
         let m : length run - n ≡ length body = omega arith in
         let o : opened s key nonce header run ≡ record { authentic = true; body = body }
-        = exact n M Ok lawful header (ok .header-bytes) run body hr (omega arith) .1 (t .body-bytes, run-is body run t) in
+        = exact n M Ok lawful header (ok .header-bytes) run body hr (omega arith) .1 (t .body-bytes, t .published) in
         open-admitted number s key nonce header ok run room (omega arith) (omega (arith, t .body-fits)) enough
         ∙ (λ i. judged (o i) (m i) room)
 
-    pub opens-iff : (openOf number key nonce header run room .number ≡ 0) ↔ ((body : List ℕ) × SealsTo number s key nonce header body run)
+    pub opens-iff : (openOf number key nonce header run room .number ≡ 0) ↔ ((body : List ℕ) × SealsTo s key nonce header body run)
     opens-iff = (
       λ e. let f = opened-fits number s key nonce header ok run room e in
           let o : Opened = opened s key nonce header run in
@@ -115,19 +115,35 @@ module _ (number : ℕ) (s : Scheme) (key nonce header : List ℕ) (ok : Admitte
           = authentic-told _ (length run - n) (o .body) room
           (rw (open-admitted number s key nonce header ok run room (f .0) (f .1) enough) at e) in
           let q = seal-open n M Ok lawful header (ok .header-bytes) run hr (f .0) a in
-          (o .body, seals-to (o .body) run (q .0 .bytes) (omega (arith, q .0 .long)) (q .1)),
+          (o .body, record { body-bytes = q .0 .bytes; body-fits = omega (arith, q .0 .long); published = q .1 }),
       λ t. ap (λ (u : Told). u .number) (body-returned (t .0) (t .1)),
     )
 
-    pub one-body : (a b : List ℕ) → SealsTo number s key nonce header a run → SealsTo number s key nonce header b run → a ≡ b
+    pub one-body : (a b : List ℕ) → SealsTo s key nonce header a run → SealsTo s key nonce header b run → a ≡ b
     one-body a b t u =
-        unique n M Ok lawful header (ok .header-bytes) a b (t .body-bytes) (u .body-bytes) (run-is a run t ∙ sym (run-is b run u))
+        unique n M Ok lawful header (ok .header-bytes) a b (t .body-bytes) (u .body-bytes) (t .published ∙ sym (u .published))
 
-    pub none-forged : ((body : List ℕ) → SealsTo number s key nonce header body run → ⊥) → n ≤ length run → length run ≤ s .body + n
+    pub none-forged : ((body : List ℕ) → SealsTo s key nonce header body run → ⊥) → n ≤ length run → length run ≤ s .body + n
         → openOf number key nonce header run room ≡ forged (length run - n) room
     none-forged none l h =
         let a : opened s key nonce header run .authentic ≡ false
         = refused-iff n M Ok lawful header (ok .header-bytes) run hr l .1
-        (λ b hb e. none b (seals-to b run hb (omega (arith, sealed-long b hb, ap length e)) e)) in
+        (λ b hb e. none b (record { body-bytes = hb; body-fits = omega (arith, sealed-long b hb, ap length e); published = e })) in
         open-admitted number s key nonce header ok run room l h enough
         ∙ ap (λ (b : Bool). cond b (done (length run - n) (opened s key nonce header run .body) room) (forged (length run - n) room)) a
+
+  -- what seal wrote, opened
+  pub sealed-opens : (body room room′ : List ℕ) → Bytes body → length body ≤ s .body → length body + n ≤ length room → length body ≤ length room′
+      → let t = sealOf number key nonce header body room in
+      (t .number ≡ 0) × (openOf number key nonce header (take (t .length) (t .room)) room′ ≡ done (length body) body room′)
+  sealed-opens body room room′ b h r r′ =
+      let run : List ℕ = sealed s key nonce header body in
+      let l : length run ≡ length body + n = sealed-long body b in
+      let e = seal-admitted number s key nonce header ok body room h r in
+      let front : take (length body + n) (run ++ drop (length body + n) room) ≡ run = take-at run (drop (length body + n) room) (length body + n) l in (
+        ap (λ (u : Told). u .number) e,
+        ap (λ (u : Told). openOf number key nonce header (take (u .length) (u .room)) room′) e
+            ∙ ap (λ (c : List ℕ). openOf number key nonce header c room′) front
+            ∙ body-returned run room′ (sealed-block body b .bytes) (omega arith) body
+            (record { body-bytes = b; body-fits = h; published = refl }),
+      )

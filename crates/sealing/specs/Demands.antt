@@ -4,10 +4,12 @@ use Prim.Native.Nat.{ℕ, _≤_}
 use mathlib.Core.List.{List}
 use lib.ListN.{length}
 use Rattle.cells.specs.Cells.{Bytes, Block}
+use Rattle.ciphers.specs.Ciphers.{blockOf}
+use Rattle.modes.specs.Mode.{sealRun}
+use Rattle.steps.specs.Modes.{modeOf}
 use Rattle.sealing.specs.declared.schemes.Scheme.{Scheme}
 use Rattle.sealing.specs.declared.schemes.Named.the-variants.{Known}
 use Rattle.sealing.specs.Schemes.{schemeOf}
-use Rattle.sealing.specs.Calls.{done, sealOf}
 
 -- a number names a scheme, and key, nonce and header are bytes that it admits
 pub record Admitted (number : ℕ) (s : Scheme) (key nonce header : List ℕ) : Type 0 where
@@ -17,9 +19,8 @@ pub record Admitted (number : ℕ) (s : Scheme) (key nonce header : List ℕ) : 
   pub header-bytes : Bytes header
   pub header-fits : length header ≤ s .header
 
--- a body within the limit seals to a run: in some room, seal answers 0 and the run's length, and the run is at the front
-pub record SealsTo (number : ℕ) (s : Scheme) (key nonce header body run : List ℕ) : Type 0 where
+-- a body within the limit seals to a run: the run is what the published rule of the scheme's mode over ForkSkinny makes of it
+pub record SealsTo (s : Scheme) (key nonce header body run : List ℕ) : Type 0 where
   pub body-bytes : Bytes body
   pub body-fits : length body ≤ s .body
-  pub room : List ℕ
-  pub sealed : sealOf number key nonce header body room ≡ done (length run) run room
+  pub published : sealRun (blockOf (s .cipher)) (modeOf (s .kind) (s .cipher) key nonce) header body ≡ run
