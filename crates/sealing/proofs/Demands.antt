@@ -5,9 +5,7 @@ use mathlib.Core.Path.{_≡_, refl, sym, _∙_}
 use Prim.Native.Nat.{ℕ, _+_, _-_, _≤_, _<_}
 use native.Mathlib.Omega.{arith}
 use mathlib.Core.Logic.{_↔_}
-use mathlib.Core.Bool.{false}
 use mathlib.Core.List.{List}
-use lib.Dec.{ltb}
 use lib.ListN.{length, take}
 use Rattle.cells.specs.Cells.{Bytes, Block}
 use Rattle.ciphers.specs.declared.Cipher.{Cipher}
@@ -25,13 +23,15 @@ use Rattle.sealing.specs.declared.Answer.{Answer}
 use Rattle.sealing.specs.declared.schemes.Scheme.{Scheme}
 use Rattle.sealing.specs.declared.schemes.Named.the-variants.{Known}
 use Rattle.sealing.specs.Schemes.{scheme1, scheme2, scheme3, schemeOf}
-use Rattle.sealing.specs.Calls.{Told, told, refused, done, forged, judged, sealUnder, openUnder, sealOf, openOf}
-use Rattle.sealing.specs.Checks.{checkOf}
+use Rattle.sealing.specs.Calls.{Told, told, refused, done, forged, judged}
+use Rattle.sealing.specs.Calls.{sealed, opened, sealUnder, openUnder, sealOf, openOf}
+use Rattle.sealing.specs.Checks.{checkOf, sealCheck, openCheck}
 use Rattle.sealing.specs.Demands.{Admitted, SealsTo}
+use Rattle.sealing.specs.Figures.{figures, allAnswered, allStated}
 use Rattle.sealing.specs.View.{viewOf}
 use Rattle.sealing.proofs.Admitted.{seal-admitted, open-admitted}
 use Rattle.sealing.proofs.Exactly.{seal-writes, seal-wrote, long, opens-iff, one-body, body-returned, none-forged, sealed-opens}
-use Rattle.sealing.proofs.Passed.{not-passed}
+use Rattle.sealing.proofs.Passed.{all-passed, not-passed}
 use Rattle.sealing.proofs.Table.{seal-known, open-known, none-named}
 use Rattle.sealing.proofs.Ways.{seal-ways, open-ways, forged-named, forged-under, no-length, told-same}
 
@@ -68,21 +68,33 @@ pub unknown : (scheme : ℕ) (key nonce header input room : List ℕ) → (schem
 unfolding sealOf openOf
 unknown scheme key nonce header input room a b c = (rw (none-named scheme a b c), rw (none-named scheme a b c))
 
--- under a scheme, the first check that applies answers with its number, before anything else is looked at
-pub seal-order : (scheme : ℕ) (s : Scheme) (key nonce header body room : List ℕ) → schemeOf scheme ≡ Known s
-    → let k = checkOf s (length key) (length nonce) (length header) (length body) false (blockOf (s .cipher)) (length room) in
-    (k ≡ 0 → ⊥) → sealOf scheme key nonce header body room ≡ refused k room
-unfolding sealUnder
-seal-order scheme s key nonce header body room known h =
-    seal-known scheme s known key nonce header body room ∙ not-passed _ _ room h
+-- under a scheme, the first check that applies answers with its number, before anything else is looked at; where none does, a seal is
+-- done and an open judged
+module _ (scheme : ℕ) (s : Scheme) (key nonce header input room : List ℕ) (known : schemeOf scheme ≡ Known s) where
+  pub seal-order : let k = sealCheck s (length key) (length nonce) (length header) (length input) (length room) in
+      (k ≡ 0 → ⊥) → sealOf scheme key nonce header input room ≡ refused k room
+  unfolding sealUnder
+  seal-order h = seal-known scheme s known key nonce header input room ∙ not-passed _ _ room h
 
-pub open-order : (scheme : ℕ) (s : Scheme) (key nonce header run room : List ℕ) → schemeOf scheme ≡ Known s
-    → let n = blockOf (s .cipher) in
-    let k = checkOf s (length key) (length nonce) (length header) (length run - n) (ltb (length run) n) 0 (length room) in
-    (k ≡ 0 → ⊥) → openOf scheme key nonce header run room ≡ refused k room
-unfolding openUnder
-open-order scheme s key nonce header run room known h =
-    open-known scheme s known key nonce header run room ∙ not-passed _ _ room h
+  pub seal-done : sealCheck s (length key) (length nonce) (length header) (length input) (length room) ≡ 0
+      → sealOf scheme key nonce header input room ≡ done (length input + blockOf (s .cipher)) (sealed s key nonce header input) room
+  unfolding sealUnder
+  seal-done e = seal-known scheme s known key nonce header input room ∙ all-passed _ _ room e
+
+  pub open-order : let k = openCheck s (length key) (length nonce) (length header) (length input) (length room) in
+      (k ≡ 0 → ⊥) → openOf scheme key nonce header input room ≡ refused k room
+  unfolding openUnder
+  open-order h = open-known scheme s known key nonce header input room ∙ not-passed _ _ room h
+
+  pub open-judged : openCheck s (length key) (length nonce) (length header) (length input) (length room) ≡ 0
+      → openOf scheme key nonce header input room ≡ judged (opened s key nonce header input) (length input - blockOf (s .cipher)) room
+  unfolding openUnder
+  open-judged e = open-known scheme s known key nonce header input room ∙ all-passed _ _ room e
+
+-- the document's boundary figures: the whole table, computed
+pub figures-hold : allAnswered figures ≡ allStated figures
+unfolding schemeOf checkOf
+figures-hold = refl
 
 -- any two results that a contract allows are one
 pub same-seal : (scheme : ℕ) (key nonce header body room : List ℕ) (a b : Answer) (r q : List ℕ)

@@ -87,6 +87,11 @@ pub was-passed : (k : ℕ) (t : Told) (room : List ℕ) → passed k t room .num
 was-passed zero t room e = refl
 was-passed (suc k) t room e = absurd (omega arith)
 
+-- and there it is
+pub all-passed : (k : ℕ) (t : Told) (room : List ℕ) → k ≡ 0 → passed k t room ≡ t
+all-passed zero t room e = refl
+all-passed (suc k) t room e = absurd (omega arith)
+
 -- another number is told
 pub not-passed : (k : ℕ) (t : Told) (room : List ℕ) → (k ≡ 0 → ⊥) → passed k t room ≡ refused k room
 not-passed zero t room h = absurd (h refl)

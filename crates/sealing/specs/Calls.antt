@@ -1,9 +1,8 @@
 -- What seal and open tell their caller, and what the room then holds, for every input (01, What a caller is told).
 -- Assumes nothing.
 use Prim.Native.Nat.{ℕ, zero, suc, _+_, _-_}
-use mathlib.Core.Bool.{false, cond}
+use mathlib.Core.Bool.{cond}
 use mathlib.Core.List.{List, _++_}
-use lib.Dec.{ltb}
 use lib.ListN.{length, drop, replicate}
 use Rattle.ciphers.specs.Ciphers.{blockOf}
 use Rattle.modes.specs.Mode.{Opened, sealRun, openRun}
@@ -13,7 +12,7 @@ use Rattle.sealing.specs.declared.schemes.Scheme.{Scheme}
 use Rattle.sealing.specs.declared.schemes.Named.{Named}
 use Rattle.sealing.specs.declared.schemes.Named.the-variants.{Known, Unknown}
 use Rattle.sealing.specs.Schemes.{schemeOf}
-use Rattle.sealing.specs.Checks.{checkOf}
+use Rattle.sealing.specs.Checks.{sealCheck, openCheck}
 
 -- number, length and room
 pub record Told : Type 0 where
@@ -62,7 +61,7 @@ opened s key nonce header run = openRun (blockOf (s .cipher)) (modeOf (s .kind) 
 unfoldable pub sealUnder : Scheme → (key nonce header body room : List ℕ) → Told
 sealUnder s key nonce header body room =
     let n = blockOf (s .cipher) in
-    passed (checkOf s (length key) (length nonce) (length header) (length body) false n (length room))
+    passed (sealCheck s (length key) (length nonce) (length header) (length body) (length room))
     (done (length body + n) (sealed s key nonce header body) room)
     room
 
@@ -70,7 +69,7 @@ unfoldable pub openUnder : Scheme → (key nonce header run room : List ℕ) →
 openUnder s key nonce header run room =
     let n = blockOf (s .cipher) in
     let l = length run - n in
-    passed (checkOf s (length key) (length nonce) (length header) l (ltb (length run) n) 0 (length room))
+    passed (openCheck s (length key) (length nonce) (length header) (length run) (length room))
     (judged (opened s key nonce header run) l room)
     room
 

@@ -1,5 +1,6 @@
 pub mod Calls
 pub mod Checks
 pub mod Demands
+pub mod Figures
 pub mod Schemes
 pub mod View

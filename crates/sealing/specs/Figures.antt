@@ -1,0 +1,95 @@
+-- The boundary figures of document 01 (What a caller is told), one table: the lengths that go into a call, and the number that its
+-- checks answer; 0 says that no check applies. Key and nonce have the scheme's lengths. Assumes nothing.
+use Prim.Native.Nat.{ℕ}
+use mathlib.Core.Bool.{Bool, true, false}
+use mathlib.Core.List.{List, [], _∷_}
+use Rattle.sealing.specs.declared.schemes.Scheme.{Scheme}
+use Rattle.sealing.specs.declared.schemes.Named.{Named}
+use Rattle.sealing.specs.declared.schemes.Named.the-variants.{Known, Unknown}
+use Rattle.sealing.specs.Checks.{sealCheck, openCheck}
+use Rattle.sealing.specs.Schemes.{schemeOf}
+
+-- `input` is the body's length or, where the call is an open, the run's
+pub record Figure : Type 0 where
+  pub opens : Bool
+  pub scheme : ℕ
+  pub header : ℕ
+  pub input : ℕ
+  pub room : ℕ
+  pub number : ℕ
+
+abbrev seals : (scheme header body room number : ℕ) → Figure
+seals scheme header body room number =
+    record { opens = false; scheme = scheme; header = header; input = body; room = room; number = number }
+
+abbrev opening : (scheme header run room number : ℕ) → Figure
+opening scheme header run room number =
+    record { opens = true; scheme = scheme; header = header; input = run; room = room; number = number }
+
+abbrev pub figures : List Figure
+figures =
+    -- scheme 1 takes 65,528 bytes and refuses 65,529: of body, of header, of a body in its run
+    seals 1 0 65528 65536 0
+    ∷ seals 1 0 65529 65537 3
+    ∷ seals 1 65528 0 8 0
+    ∷ seals 1 65529 0 8 3
+    ∷ opening 1 65528 65536 65528 0
+    ∷ opening 1 65528 65537 65529 3
+    ∷ opening 1 65529 65536 65528 3
+    -- schemes 2 and 3 take 131,056 and refuse 131,057
+    ∷ seals 2 0 131056 131072 0
+    ∷ seals 2 0 131057 131073 3
+    ∷ seals 2 131056 0 16 0
+    ∷ seals 2 131057 0 16 3
+    ∷ opening 2 131056 131072 131056 0
+    ∷ opening 2 131056 131073 131057 3
+    ∷ opening 2 131057 131072 131056 3
+    ∷ seals 3 0 131056 131072 0
+    ∷ seals 3 0 131057 131073 3
+    ∷ seals 3 131056 0 16 0
+    ∷ seals 3 131057 0 16 3
+    ∷ opening 3 131056 131072 131056 0
+    ∷ opening 3 131056 131073 131057 3
+    ∷ opening 3 131057 131072 131056 3
+    -- an open of 7 bytes under scheme 1 is 4; of 8 bytes it is judged as an empty body; likewise 15 and 16 under 2 and 3
+    ∷ opening 1 0 7 0 4
+    ∷ opening 1 0 8 0 0
+    ∷ opening 2 0 15 0 4
+    ∷ opening 2 0 16 0 0
+    ∷ opening 3 0 15 0 4
+    ∷ opening 3 0 16 0 0
+    -- a run shorter than a block has no body to judge under 3: it is 4, but 3 under too long a header
+    ∷ opening 1 65529 7 0 3
+    -- a room one byte short is 5; an exact room is enough
+    ∷ seals 1 16 5 12 5
+    ∷ seals 1 16 5 13 0
+    ∷ opening 1 16 13 4 5
+    ∷ opening 1 16 13 5 0
+    ∷ seals 2 16 5 20 5
+    ∷ seals 2 16 5 21 0
+    ∷ opening 2 16 21 4 5
+    ∷ opening 2 16 21 5 0
+    ∷ seals 3 16 5 20 5
+    ∷ seals 3 16 5 21 0
+    ∷ opening 3 16 21 4 5
+    ∷ opening 3 16 21 5 0
+    ∷ []
+
+-- ---- its two sides
+
+abbrev checked : (opens : Bool) → Scheme → (key nonce header input room : ℕ) → ℕ
+checked false = sealCheck
+checked true = openCheck
+
+-- the number by the checks, with a key and a nonce of the scheme's lengths; 1 where none is named
+abbrev numberBy : Named → Figure → ℕ
+numberBy (Known s) f = checked (f .opens) s (s .key) (s .nonce) (f .header) (f .input) (f .room)
+numberBy Unknown f = 1
+
+abbrev pub allAnswered : List Figure → List ℕ
+allAnswered [] = []
+allAnswered (f ∷ fs) = numberBy (schemeOf (f .scheme)) f ∷ allAnswered fs
+
+abbrev pub allStated : List Figure → List ℕ
+allStated [] = []
+allStated (f ∷ fs) = f .number ∷ allStated fs
