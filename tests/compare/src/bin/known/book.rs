@@ -1,0 +1,129 @@
+//! The records one after the other, each made by a call of the side.
+
+use crate::call::{Call, Direction};
+use crate::side::{Block, Side};
+use crate::value::{plain, plain_or_last, plain_or_sum};
+
+/// What every byte of a room holds before a call.
+const FILLING: u8 = 0xee;
+
+const TOP: &str = include_str!("top.txt");
+
+pub struct Book {
+    side: &'static Side,
+    text: String,
+    records: usize,
+    /// The output of the record before.
+    last: Vec<u8>,
+}
+
+/// A call of fork or unfork, without what the result blocks hold before it.
+#[derive(Clone, Copy)]
+pub struct BlockCall {
+    pub cipher: u32,
+    pub key: Block,
+    pub tweak: Block,
+    pub block: Block,
+    pub want: u32,
+}
+
+impl Book {
+    pub fn new(side: &'static Side) -> Book {
+        Book {
+            side,
+            text: TOP.to_string(),
+            records: 0,
+            last: Vec::new(),
+        }
+    }
+
+    /// What the records from here on are about.
+    pub fn section(&mut self, about: &str) {
+        self.text += &format!("\n# ---- {}\n", about);
+    }
+
+    /// The last line tells how many records there are, so that a file that
+    /// is cut off can be told.
+    pub fn end(mut self) -> String {
+        self.text += "\n";
+        self.field("end", &self.records.to_string());
+        self.text
+    }
+
+    fn field(&mut self, name: &str, value: &str) {
+        self.text += &format!("{} = {}\n", name, value);
+    }
+
+    fn begin(&mut self, call: &str, about: &str) {
+        self.records += 1;
+        self.text += "\n";
+        if !about.is_empty() {
+            self.text += &format!("# {}\n", about);
+        }
+        self.field("record", &self.records.to_string());
+        self.field("call", call);
+    }
+
+    /// A record of seal or open. The number that the record is there for has
+    /// to come, or what is said of it would be wrong. Gives the output.
+    pub fn sealing(&mut self, about: &str, call: &Call, number: u32) -> Vec<u8> {
+        let (name, text_name, function) = match call.direction {
+            Direction::Seal => ("seal", "body", self.side.seal),
+            Direction::Open => ("open", "sealed", self.side.open),
+        };
+        self.begin(name, about);
+        let mut room = vec![FILLING; call.room];
+        self.field("scheme", &call.scheme.to_string());
+        self.field("key", &plain(&call.key));
+        self.field("nonce", &plain(&call.nonce));
+        self.field("header", &plain(&call.header));
+        self.field(text_name, &plain_or_last(&call.text, &self.last));
+        self.field("room", &plain(&room));
+        let (key, nonce, header, text) = (&call.key, &call.nonce, &call.header, &call.text);
+        let answer = function(call.scheme, key, nonce, header, text, &mut room);
+        assert_eq!(answer.number, number, "record {}: {}", self.records, about);
+        self.field("number", &answer.number.to_string());
+        self.field("length", &answer.length.to_string());
+        self.field("after", &plain_or_sum(&room));
+        room.truncate(answer.length);
+        self.last = room;
+        self.last.clone()
+    }
+
+    fn block_call(&mut self, call: &BlockCall) {
+        self.field("cipher", &call.cipher.to_string());
+        self.field("key", &plain(&call.key));
+        self.field("tweak", &plain(&call.tweak));
+        self.field("block", &plain(&call.block));
+    }
+
+    /// A record of fork. Gives both halves.
+    pub fn fork(&mut self, about: &str, call: &BlockCall, number: u32) -> [Block; 2] {
+        self.begin("fork", about);
+        self.block_call(call);
+        self.field("want", &call.want.to_string());
+        let (key, tweak, block) = (&call.key, &call.tweak, &call.block);
+        let answer = (self.side.fork)(call.cipher, key, tweak, block, call.want);
+        assert_eq!(answer.number, number, "record {}: {}", self.records, about);
+        self.field("number", &answer.number.to_string());
+        self.field("half0", &plain(&answer.half0));
+        self.field("half1", &plain(&answer.half1));
+        self.last.clear();
+        [answer.half0, answer.half1]
+    }
+
+    /// A record of unfork.
+    pub fn unfork(&mut self, about: &str, call: &BlockCall, from: u32, number: u32) {
+        self.begin("unfork", about);
+        self.block_call(call);
+        self.field("from", &from.to_string());
+        self.field("want", &call.want.to_string());
+        let (key, tweak, block) = (&call.key, &call.tweak, &call.block);
+        let answer = (self.side.unfork)(call.cipher, key, tweak, block, from, call.want);
+        assert_eq!(answer.number, number, "record {}: {}", self.records, about);
+        self.field("number", &answer.number.to_string());
+        self.field("input", &plain(&answer.input));
+        self.field("other", &plain(&answer.other));
+        self.last.clear();
+    }
+}

@@ -1,0 +1,115 @@
+//! Opens of what was not sealed so: a part of the call changed, and runs whose
+//! tag is right and whose padding is not.
+
+use crate::book::Book;
+use crate::call::{row_of, Call};
+use compare::blocks::pad10;
+use compare::forged::{forged_run, LastBlock};
+use compare::random::Random;
+use compare::schemes::Keyed;
+use compare::sealing::{DONE, NOT_AUTHENTIC};
+
+/// What is done to the open of a good run; the block's size is told.
+type Change = fn(&mut Call, usize);
+
+const CHANGES: [(&str, Change); 12] = [
+    ("The run's first bit.", |call, _| call.text[0] ^= 0x80),
+    ("A bit of the last whole block.", |call, block| {
+        call.text[2 * block - 1] ^= 1
+    }),
+    ("The first bit of the tag.", |call, block| {
+        call.text[2 * block] ^= 0x80
+    }),
+    ("The last bit of the tag.", |call, _| {
+        *call.text.last_mut().unwrap() ^= 1
+    }),
+    ("Two blocks changed over.", |call, block| {
+        call.text[..2 * block].rotate_left(block)
+    }),
+    ("The last byte cut off.", |call, _| {
+        call.text.pop();
+    }),
+    ("A byte of zero put behind.", |call, _| call.text.push(0)),
+    ("The key's first bit.", |call, _| call.key[0] ^= 0x80),
+    ("The key's last bit.", |call, _| call.key[15] ^= 1),
+    ("The nonce's last bit.", |call, _| {
+        *call.nonce.last_mut().unwrap() ^= 1
+    }),
+    ("The header's last bit.", |call, _| {
+        *call.header.last_mut().unwrap() ^= 1
+    }),
+    ("The header's last byte cut off.", |call, _| {
+        call.header.pop();
+    }),
+];
+
+/// A body of a whole block and five bytes, so that the tag has five.
+fn write_changed(book: &mut Book, random: &mut Random, scheme: u32) {
+    let block = row_of(scheme).block_bytes;
+    let call = Call::drawn(random, scheme, block + 2, block + 5);
+    let run = book.sealing("A good run.", &call, DONE);
+    for (about, change) in CHANGES {
+        let changed = call.opening(&run).with(|call| change(call, block));
+        book.sealing(about, &changed, NOT_AUTHENTIC);
+    }
+}
+
+/// The run of an empty body, which is a block: 6 clears no byte.
+fn write_empty(book: &mut Book, random: &mut Random, scheme: u32) {
+    let call = Call::drawn(random, scheme, 3, 0);
+    let run = book.sealing("The run of an empty body.", &call, DONE);
+    let changed = call.opening(&run).with(|call| call.text[0] ^= 1);
+    book.sealing("Its first byte changed.", &changed, NOT_AUTHENTIC);
+    let last = run.len() - 1;
+    let changed = call.opening(&run).with(|call| call.text[last] ^= 0x80);
+    book.sealing("Its last byte changed.", &changed, NOT_AUTHENTIC);
+}
+
+/// Runs that no sealing makes, and as a measure one with the right padding,
+/// which is what sealing makes of the three bytes.
+fn write_forged(book: &mut Book, random: &mut Random, scheme: u32) {
+    let row = row_of(scheme);
+    let body = random.bytes(3);
+    let call = Call::drawn(random, scheme, 6, 0).with(|call| call.text = body.clone());
+    let keyed = Keyed {
+        scheme: row,
+        key: call.key[..].try_into().unwrap(),
+        nonce: &call.nonce,
+    };
+    let paddings: [(&str, usize, u8, u32); 5] = [
+        ("The right padding.", 3, 0x80, DONE),
+        ("Zeros for the padding.", 3, 0x00, NOT_AUTHENTIC),
+        ("Padding of 81.", 3, 0x81, NOT_AUTHENTIC),
+        ("Padding of c0.", 3, 0xc0, NOT_AUTHENTIC),
+        (
+            "80, zeros and a last byte of 01.",
+            row.block_bytes - 1,
+            0x01,
+            NOT_AUTHENTIC,
+        ),
+    ];
+    for (about, place, byte, number) in paddings {
+        let mut block = pad10(&body, row.block_bytes);
+        block[place] = byte;
+        let last = LastBlock {
+            block,
+            body_bytes: body.len(),
+        };
+        let run = forged_run(&keyed, &call.header, &[], &last);
+        book.sealing(about, &call.opening(&run), number);
+    }
+}
+
+pub fn write(book: &mut Book) {
+    let mut random = Random::new(6);
+    for scheme in 1..=3 {
+        book.section(&format!("Scheme {}: opens with one thing changed", scheme));
+        write_changed(book, &mut random, scheme);
+        write_empty(book, &mut random, scheme);
+        book.section(&format!(
+            "Scheme {}: three bytes of body, the right tag, and the padding changed",
+            scheme
+        ));
+        write_forged(book, &mut random, scheme);
+    }
+}

@@ -1,0 +1,65 @@
+//! Both sides of the limits of header and body.
+
+use crate::book::Book;
+use crate::call::{row_of, Call};
+use compare::random::Random;
+use compare::sealing::{DONE, NOT_AUTHENTIC, NO_BLOCK, TOO_LONG};
+
+const FILLING: u8 = 0x61;
+
+fn write_headers(book: &mut Book, random: &mut Random, scheme: u32) {
+    let limit = row_of(scheme).most_bytes();
+    for (header, body) in [(limit, 5), (limit - 1, 0)] {
+        let call = Call::seal(random, scheme, &vec![FILLING; header], &vec![FILLING; body]);
+        let about = format!("Header of {} bytes.", header);
+        let run = book.sealing(&about, &call, DONE);
+        book.sealing("And open.", &call.opening(&run), DONE);
+        let longer = call.with(|call| call.header = vec![FILLING; limit + 1]);
+        book.sealing("The header one byte too long.", &longer, TOO_LONG);
+        book.sealing("And open.", &longer.opening(&run), TOO_LONG);
+    }
+}
+
+fn write_bodies(book: &mut Book, random: &mut Random, scheme: u32) {
+    let row = row_of(scheme);
+    let limit = row.most_bytes();
+    for (header, body) in [(0, limit), (limit, limit), (3, limit - 1)] {
+        let call = Call::seal(random, scheme, &vec![FILLING; header], &vec![FILLING; body]);
+        let about = format!("Header of {} bytes, body of {}.", header, body);
+        let run = book.sealing(&about, &call, DONE);
+        book.sealing("And open.", &call.opening(&run), DONE);
+    }
+    let call = Call::seal(random, scheme, &[FILLING; 3], &vec![FILLING; limit + 1]);
+    book.sealing("The body one byte too long.", &call, TOO_LONG);
+    let longest = call.opening(&vec![FILLING; limit + row.block_bytes]);
+    let about = "The longest run that is judged; no body seals to it.";
+    book.sealing(about, &longest, NOT_AUTHENTIC);
+    let longer = call.opening(&vec![FILLING; limit + row.block_bytes + 1]);
+    book.sealing("A run one byte longer.", &longer, TOO_LONG);
+}
+
+/// A run shorter than a block has no body that could be too long.
+fn write_short_runs(book: &mut Book, random: &mut Random, scheme: u32) {
+    let row = row_of(scheme);
+    let header = vec![FILLING; row.most_bytes()];
+    let call = Call::seal(random, scheme, &header, &[]);
+    book.sealing("A run of no byte.", &call.opening(&[]), NO_BLOCK);
+    let short = call.opening(&vec![FILLING; row.block_bytes - 1]);
+    book.sealing("A run one byte shorter than a block.", &short, NO_BLOCK);
+    let longer = short.with(|call| call.header.push(FILLING));
+    book.sealing("The same, and the header too long.", &longer, TOO_LONG);
+    let block = call.opening(&vec![FILLING; row.block_bytes]);
+    let about = "A run of a block is judged, as that of an empty body.";
+    book.sealing(about, &block, NOT_AUTHENTIC);
+}
+
+pub fn write(book: &mut Book) {
+    let mut random = Random::new(7);
+    for scheme in 1..=3 {
+        let limit = row_of(scheme).most_bytes();
+        book.section(&format!("Scheme {}: both sides of {} bytes", scheme, limit));
+        write_headers(book, &mut random, scheme);
+        write_bodies(book, &mut random, scheme);
+        write_short_runs(book, &mut random, scheme);
+    }
+}

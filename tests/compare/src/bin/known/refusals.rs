@@ -1,0 +1,150 @@
+//! Every fault alone, and two at once: the checks are made in the order 1 to
+//! 6, and the first that applies answers.
+
+use crate::book::Book;
+use crate::call::{row_of, Call, Direction, SPARE};
+use compare::random::Random;
+use compare::schemes::Scheme;
+use compare::sealing::{NOT_AUTHENTIC, NO_BLOCK, SHORT_ROOM, TOO_LONG};
+use compare::sealing::{UNKNOWN_SCHEME, WRONG_LENGTH};
+
+const FILLING: u8 = 0x61;
+
+/// A fault by its number, what is said of it and how it comes about. Rooms
+/// are seen to last, since what is enough depends on the rest.
+#[derive(Clone, Copy)]
+struct Fault {
+    number: u32,
+    about: &'static str,
+    make: fn(&mut Call, &Scheme),
+}
+
+const fn fault(number: u32, about: &'static str, make: fn(&mut Call, &Scheme)) -> Fault {
+    Fault {
+        number,
+        about,
+        make,
+    }
+}
+
+/// Those that are met with others; one of each kind.
+const MET: [Fault; 6] = [
+    fault(UNKNOWN_SCHEME, "no such scheme", |call, _| call.scheme = 4),
+    fault(WRONG_LENGTH, "key of 15 bytes", |call, _| {
+        call.key.truncate(15)
+    }),
+    fault(WRONG_LENGTH, "nonce a byte too long", |call, _| {
+        call.nonce.push(0)
+    }),
+    fault(TOO_LONG, "header too long", |call, row| {
+        call.header = vec![FILLING; row.most_bytes() + 1]
+    }),
+    TEXT_TOO_LONG,
+    ROOM_TOO_SHORT,
+];
+
+const TEXT_TOO_LONG: Fault = fault(TOO_LONG, "body too long", |call, row| {
+    let block = match call.direction {
+        Direction::Seal => 0,
+        Direction::Open => row.block_bytes,
+    };
+    call.text = vec![FILLING; row.most_bytes() + block + 1]
+});
+
+const ROOM_TOO_SHORT: Fault = fault(SHORT_ROOM, "no room", |call, _| call.room = 0);
+
+/// Further ones that only an open can have.
+const OPENS: [Fault; 2] = [
+    fault(NOT_AUTHENTIC, "a bit changed", |call, _| call.text[0] ^= 1),
+    fault(NO_BLOCK, "run a byte shorter than a block", |call, row| {
+        call.text.truncate(row.block_bytes - 1)
+    }),
+];
+
+/// Further ones that are tried alone.
+const ALONE: [Fault; 8] = [
+    fault(UNKNOWN_SCHEME, "scheme 0", |call, _| call.scheme = 0),
+    fault(
+        UNKNOWN_SCHEME,
+        "a known scheme in the low byte alone",
+        |call, _| call.scheme += 256,
+    ),
+    fault(UNKNOWN_SCHEME, "the highest number", |call, _| {
+        call.scheme = u32::MAX
+    }),
+    fault(WRONG_LENGTH, "no key", |call, _| call.key.clear()),
+    fault(WRONG_LENGTH, "key of 17 bytes", |call, _| call.key.push(0)),
+    fault(WRONG_LENGTH, "no nonce", |call, _| call.nonce.clear()),
+    fault(WRONG_LENGTH, "nonce a byte too short", |call, _| {
+        call.nonce.pop();
+    }),
+    fault(WRONG_LENGTH, "key and nonce changed over", |call, _| {
+        std::mem::swap(&mut call.key, &mut call.nonce)
+    }),
+];
+
+/// The call with faults put in, and room for what it would give.
+fn faulty(good: &Call, faults: &[Fault]) -> Call {
+    let row = row_of(good.scheme);
+    let mut call = good.clone();
+    for fault in faults {
+        if fault.number != UNKNOWN_SCHEME {
+            (fault.make)(&mut call, row);
+        }
+    }
+    call.room = call.exact_room() + SPARE;
+    for fault in faults {
+        if [UNKNOWN_SCHEME, SHORT_ROOM].contains(&fault.number) {
+            (fault.make)(&mut call, row);
+        }
+    }
+    call
+}
+
+fn write_faults(book: &mut Book, good: &Call, faults: &[Fault]) {
+    let names: Vec<&str> = faults.iter().map(|fault| fault.about).collect();
+    let first = faults.iter().map(|fault| fault.number).min().unwrap();
+    let about = format!("{}: {}.", first, names.join("; "));
+    book.sealing(&about, &faulty(good, faults), first);
+}
+
+/// Two faults of one number tell nothing about the order, and two that change
+/// the same run exclude each other.
+fn can_meet(first: &Fault, second: &Fault) -> bool {
+    let on_run = |fault: &Fault| {
+        let faults = OPENS.iter().chain([&TEXT_TOO_LONG]);
+        faults
+            .map(|other| other.about)
+            .any(|about| about == fault.about)
+    };
+    first.number != second.number && !(on_run(first) && on_run(second))
+}
+
+fn write_all(book: &mut Book, good: &Call) {
+    let mut faults = MET.to_vec();
+    if good.direction == Direction::Open {
+        faults.extend(OPENS);
+    }
+    for fault in faults.iter().chain(&ALONE) {
+        write_faults(book, good, &[*fault]);
+    }
+    for (place, first) in faults.iter().enumerate() {
+        for second in &faults[place + 1..] {
+            if can_meet(first, second) {
+                write_faults(book, good, &[*first, *second]);
+            }
+        }
+    }
+}
+
+pub fn write(book: &mut Book) {
+    let mut random = Random::new(5);
+    for scheme in 1..=3 {
+        let call = Call::drawn(&mut random, scheme, 4, 9);
+        book.section(&format!("Scheme {}: seals with faults", scheme));
+        write_all(book, &call);
+        book.section(&format!("Scheme {}: opens with faults", scheme));
+        let run = book.sealing("A good run, for the next records.", &call, 0);
+        write_all(book, &call.opening(&run));
+    }
+}

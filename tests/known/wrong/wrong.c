@@ -1,0 +1,174 @@
+/* The library with one thing wrong, to see that the known answers tell. It is the one that the environment's WRONG names:
+ *
+ *   1  the length is not written with a refusal
+ *   2  the room is judged before key and nonce
+ *   3  a room of exactly the output's length is refused
+ *   4  the byte behind the output is cleared
+ *   5  one byte less is cleared with 6
+ *   6  the limit of the header is a byte lower
+ *   7  the limit of the body is a byte higher
+ *   8  a run shorter than a block is told before a header that is too long
+ *   9  of the scheme's number only the low byte counts
+ *  10  a header's last byte of 80 is taken for padding, as in the desk's accident
+ *  11  no header is the same as a block of 80 and zeros
+ *  12  half 1 is given, asked for or not
+ *  13  a refused block call leaves its result blocks as they are
+ *  14  the halves are changed over
+ *  15  the input comes in place of the other half
+ *  16  a byte is written behind the room
+ *
+ * and nothing with 0. */
+#include "wrong.h"
+
+#include "auraski.h"
+
+#include <stdlib.h>
+#include <string.h>
+
+static int is_wrong(int number)
+{
+    const char *named = getenv("WRONG");
+    return named != NULL && atoi(named) == number;
+}
+
+/* Seal and open have one shape. */
+struct call {
+    int opens;
+    uint32_t scheme;
+    const uint8_t *key, *nonce, *header, *text;
+    size_t key_len, nonce_len, header_len, text_len;
+    uint8_t *room;
+    size_t room_len, *length;
+};
+
+static size_t block_of(const struct call *c)
+{
+    return c->scheme == 1 ? 8 : 16;
+}
+
+static size_t output_of(const struct call *c)
+{
+    if (!c->opens)
+        return c->text_len + block_of(c);
+    return c->text_len < block_of(c) ? 0 : c->text_len - block_of(c);
+}
+
+static uint32_t right_call(const struct call *c)
+{
+    return (c->opens ? auraski_open : auraski_seal)(c->scheme, c->key, c->key_len, c->nonce, c->nonce_len, c->header, c->header_len,
+                                                    c->text, c->text_len, c->room, c->room_len, c->length);
+}
+
+/* The number that a wrong check gives where another is right. */
+static uint32_t wrong_check(const struct call *c, uint32_t number)
+{
+    size_t limit = c->scheme == 1 ? 65528 : 131056;
+    int short_run = c->opens && c->text_len < block_of(c);
+    if (is_wrong(2) && number == 2 && c->room_len < output_of(c))
+        return 5;
+    if (is_wrong(3) && (number == 0 || number == 6) && c->room_len == output_of(c))
+        return 5;
+    if (is_wrong(6) && (number == 0 || number == 6) && c->header_len == limit)
+        return 3;
+    if (is_wrong(7) && number == 3 && c->header_len <= limit && c->text_len == limit + (c->opens ? block_of(c) : 0) + 1)
+        return c->opens ? 6 : 0;
+    if (is_wrong(8) && number == 3 && short_run)
+        return 4;
+    return number;
+}
+
+/* Calls the library with what is wrong about the arguments. */
+static uint32_t changed_call(struct call c)
+{
+    static const uint8_t padded[16] = {0x80};
+    if (is_wrong(9))
+        c.scheme &= 255;
+    if (is_wrong(10) && c.header_len > 0 && c.header[c.header_len - 1] == 0x80)
+        c.header_len--;
+    if (is_wrong(11) && c.header_len == 0) {
+        c.header = padded;
+        c.header_len = block_of(&c);
+    }
+    return right_call(&c);
+}
+
+static uint32_t sealing(struct call c)
+{
+    size_t untold = *c.length, output = output_of(&c);
+    uint8_t kept[1 + 131076];
+    memcpy(kept + 1, c.room, c.room_len);
+    uint32_t number = changed_call(c);
+    uint32_t answer = wrong_check(&c, number);
+    if (answer != number) {
+        memcpy(c.room, kept + 1, c.room_len);
+        *c.length = 0;
+    }
+    if (is_wrong(1) && number != 0)
+        *c.length = untold;
+    if (is_wrong(4) && number == 0 && output < c.room_len)
+        c.room[output] = 0;
+    if (is_wrong(5) && number == 6 && output > 0)
+        c.room[output - 1] = kept[output];
+    if (is_wrong(16) && number == 0)
+        c.room[c.room_len] = 0;
+    return answer;
+}
+
+uint32_t wrong_seal(uint32_t scheme, const uint8_t *key, size_t key_len, const uint8_t *nonce, size_t nonce_len,
+                    const uint8_t *header, size_t header_len, const uint8_t *body, size_t body_len, uint8_t *room, size_t room_len,
+                    size_t *length)
+{
+    struct call c = {0,       scheme,    key,        nonce,    header, body, key_len,
+                     nonce_len, header_len, body_len, room,   room_len, length};
+    return sealing(c);
+}
+
+uint32_t wrong_open(uint32_t scheme, const uint8_t *key, size_t key_len, const uint8_t *nonce, size_t nonce_len,
+                    const uint8_t *header, size_t header_len, const uint8_t *sealed, size_t sealed_len, uint8_t *room,
+                    size_t room_len, size_t *length)
+{
+    struct call c = {1,       scheme,    key,        nonce,    header, sealed, key_len,
+                     nonce_len, header_len, sealed_len, room,   room_len, length};
+    return sealing(c);
+}
+
+/* What is wrong with the two result blocks of a block call. */
+static void change_results(uint32_t number, uint8_t first[16], uint8_t second[16], const uint8_t before[32])
+{
+    uint8_t kept[16];
+    if (is_wrong(13) && number != 0) {
+        memcpy(first, before, 16);
+        memcpy(second, before + 16, 16);
+    }
+    if (is_wrong(14)) {
+        memcpy(kept, first, 16);
+        memcpy(first, second, 16);
+        memcpy(second, kept, 16);
+    }
+}
+
+uint32_t wrong_fork(uint32_t cipher, const uint8_t key[16], const uint8_t tweak[16], const uint8_t block[16], uint32_t want,
+                    uint8_t half0[16], uint8_t half1[16])
+{
+    uint8_t before[32], all[16];
+    memcpy(before, half0, 16);
+    memcpy(before + 16, half1, 16);
+    uint32_t number = auraski_fork(cipher, key, tweak, block, want, half0, half1);
+    if (is_wrong(12) && number == 0)
+        number = auraski_fork(cipher, key, tweak, block, AURASKI_BOTH, all, half1);
+    change_results(number, half0, half1, before);
+    return number;
+}
+
+uint32_t wrong_unfork(uint32_t cipher, const uint8_t key[16], const uint8_t tweak[16], const uint8_t block[16], uint32_t from,
+                      uint32_t want, uint8_t input[16], uint8_t other[16])
+{
+    uint8_t before[32];
+    memcpy(before, input, 16);
+    memcpy(before + 16, other, 16);
+    uint32_t number = auraski_unfork(cipher, key, tweak, block, from, want, input, other);
+    if (is_wrong(15) && number == 0 && want == AURASKI_BOTH)
+        memcpy(other, input, 16);
+    change_results(number, input, other, before);
+    return number;
+}
