@@ -1,14 +1,20 @@
 /* Auraski for C: sealing and opening of records with PAEF and SAEF, and ForkSkinny's block calls.
  *
- * libauraski.a is x86-64 code with the calling convention of Linux. It calls memcpy and memset and nothing else, allocates nothing,
- * prints nothing and keeps nothing from one call to the next: calls may run at the same time in several threads. A call does not wipe
- * its stack: parts of key and body may stay behind there. How long a call takes, and which memory it reads, may depend on the key and
- * the data.
+ * SPDX-License-Identifier: 0BSD
  *
- * A pointer stands for as many bytes as the length behind it says. No pointer may be null; where the length is 0 any other will do, and
- * nothing is read or written through it. What a call writes (room and *length, or both result blocks) must not overlap anything else
- * that it is given, so that nothing is sealed or opened in place; what it only reads may overlap. A call changes nothing but what is
- * said below, and returns, for every value of every argument and every length.
+ * libauraski.a is x86-64 code with the calling convention of Linux, for user space. As any function there may, it uses the red zone, the
+ * 128 bytes below the stack pointer, and the vector registers, by SSE2, which every x86-64 machine has. So it is not fit for a kernel or an
+ * interrupt handler. It calls memcpy and memset and nothing else, allocates nothing, prints nothing and keeps nothing from one call to the
+ * next: calls may run at the same time in several threads. A call does not wipe its stack: parts of key and body may stay behind there.
+ * How long a call takes, and which memory it reads, may depend on the key and the data.
+ *
+ * A pointer stands for as many bytes as the length behind it says, and `length` for one size_t. No pointer may be null; where the length
+ * is 0 any other will do, such as the address of any object, and nothing is read or written through it. What a call writes (room and
+ * *length, or both result blocks) must not overlap anything else that it is given, so that nothing is sealed or opened in place; what it
+ * only reads may overlap. A call changes nothing but what is said below, and returns, for every value of every argument and every length.
+ *
+ * These calls are proved as the library has them. That the prototypes below fit what it exports is assumed, and tested; a program has to
+ * take the header that came with its library, since nothing checks that the two belong together.
  */
 #ifndef AURASKI_H
 #define AURASKI_H
@@ -16,20 +22,36 @@
 #include <stddef.h>
 #include <stdint.h>
 
+/* The same as `pkg-config --modversion auraski` says. */
+#define AURASKI_VERSION "0.2.0"
+#define AURASKI_VERSION_MAJOR 0
+#define AURASKI_VERSION_MINOR 2
+#define AURASKI_VERSION_PATCH 0
+
+/* GCC and clang warn of an answer that is not looked at, and of a null pointer where they see that it is one. */
+#if defined(__GNUC__) && __GNUC__ >= 4
+#define AURASKI_CHECKED __attribute__((__warn_unused_result__, __nonnull__))
+#else
+#define AURASKI_CHECKED
+#endif
+
 #ifdef __cplusplus
 extern "C" {
 #endif
 
 /* ---- sealing and opening ---- */
 
-/* Schemes. A key has 16 bytes under each. The nonce must not be used twice under one key.
+/* A seal makes of a body a run, ciphertext and tag in one, which is a block longer. The header (the associated data) has its part in the
+ * making, but does not go into the run: who opens the run has to have it.
+ *
+ * Schemes. A key has 16 bytes under each. The nonce must not be used twice under one key.
  *
  *                            block   nonce   header at most   body at most   so a sealed run has
  *   1  PAEF over 64-192          8       6           65,528         65,528   8 to 65,536 bytes
  *   2  PAEF over 128-256        16      14          131,056        131,056   16 to 131,072
  *   3  SAEF over 128-256        16      15          131,056        131,056   16 to 131,072
  *
- * Header and body may be empty. The header is not part of the sealed run: who opens it has to have it. */
+ * Header and body may be empty. */
 #define AURASKI_PAEF_64_192 1u
 #define AURASKI_PAEF_128_256 2u
 #define AURASKI_SAEF_128_256 3u
@@ -63,7 +85,7 @@ extern "C" {
  * to *length; the rest of the room is unchanged. Refused with 1, 2, 3 or 5: *length is 0, the room unchanged. */
 uint32_t auraski_seal(uint32_t scheme, const uint8_t *key, size_t key_len, const uint8_t *nonce, size_t nonce_len,
                       const uint8_t *header, size_t header_len, const uint8_t *body, size_t body_len, uint8_t *room,
-                      size_t room_len, size_t *length);
+                      size_t room_len, size_t *length) AURASKI_CHECKED;
 
 /* Opens a sealed run. The body has sealed_len less a block of bytes. With 0 it goes to the front of the room and its length, which may
  * be 0, to *length; the rest of the room is unchanged. Refused with 1, 2, 3, 4 or 5: *length is 0, the room unchanged. Refused with 6:
@@ -71,7 +93,7 @@ uint32_t auraski_seal(uint32_t scheme, const uint8_t *key, size_t key_len, const
  * call returns the room may hold what is not. */
 uint32_t auraski_open(uint32_t scheme, const uint8_t *key, size_t key_len, const uint8_t *nonce, size_t nonce_len,
                       const uint8_t *header, size_t header_len, const uint8_t *sealed, size_t sealed_len, uint8_t *room,
-                      size_t room_len, size_t *length);
+                      size_t room_len, size_t *length) AURASKI_CHECKED;
 
 /* ---- the block calls: AURASKI_DONE or AURASKI_UNKNOWN ---- */
 
@@ -92,14 +114,16 @@ uint32_t auraski_open(uint32_t scheme, const uint8_t *key, size_t key_len, const
 
 /* Forward: half 0 (the first result) and half 1 (the second) of a block. */
 uint32_t auraski_fork(uint32_t cipher, const uint8_t key[16], const uint8_t tweak[16], const uint8_t block[16],
-                      uint32_t want, uint8_t half0[16], uint8_t half1[16]);
+                      uint32_t want, uint8_t half0[16], uint8_t half1[16]) AURASKI_CHECKED;
 
 /* Back: `block` is the half that `from` says. The input block (the first result) and the other half (the second). */
 uint32_t auraski_unfork(uint32_t cipher, const uint8_t key[16], const uint8_t tweak[16], const uint8_t block[16],
-                        uint32_t from, uint32_t want, uint8_t input[16], uint8_t other[16]);
+                        uint32_t from, uint32_t want, uint8_t input[16], uint8_t other[16]) AURASKI_CHECKED;
 
 #ifdef __cplusplus
 }
 #endif
+
+#undef AURASKI_CHECKED
 
 #endif
