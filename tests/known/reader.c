@@ -4,6 +4,8 @@
  * It tries auraski_seal, auraski_open, auraski_fork and auraski_unfork. With -DIMPLEMENTATION=NAME, and -include of a header that declares
  * them, it tries NAME_seal, NAME_open, NAME_fork and NAME_unfork, which have the same parameters.
  *
+ * SPDX-License-Identifier: 0BSD
+ *
  * Ends with 0 if every record holds, with 1 if one does not, and with 2 if FILE can't be read or is not in its form. */
 #include "values.h"
 

@@ -54,6 +54,18 @@ fn write_changed(book: &mut Book, random: &mut Random, scheme: u32) {
     }
 }
 
+/// The shortest tag and the longest, each with its last bit changed.
+fn write_tags(book: &mut Book, random: &mut Random, scheme: u32) {
+    let block = row_of(scheme).block_bytes;
+    for (about, body) in [("A tag of one byte.", 1), ("A tag of a block.", 2 * block)] {
+        let call = Call::drawn(random, scheme, 0, body);
+        let run = book.sealing(about, &call, DONE);
+        let last = run.len() - 1;
+        let changed = call.opening(&run).with(|call| call.text[last] ^= 1);
+        book.sealing("Its last bit changed.", &changed, NOT_AUTHENTIC);
+    }
+}
+
 /// The run of an empty body, which is a block: 6 clears no byte.
 fn write_empty(book: &mut Book, random: &mut Random, scheme: u32) {
     let call = Call::drawn(random, scheme, 3, 0);
@@ -105,6 +117,7 @@ pub fn write(book: &mut Book) {
     for scheme in 1..=3 {
         book.section(&format!("Scheme {}: opens with one thing changed", scheme));
         write_changed(book, &mut random, scheme);
+        write_tags(book, &mut random, scheme);
         write_empty(book, &mut random, scheme);
         book.section(&format!(
             "Scheme {}: three bytes of body, the right tag, and the padding changed",
