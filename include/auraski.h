@@ -13,8 +13,8 @@
  * *length, or both result blocks) must not overlap anything else that it is given, so that nothing is sealed or opened in place; what it
  * only reads may overlap. A call changes nothing but what is said below, and returns, for every value of every argument and every length.
  *
- * These calls are proved as the library has them. That the prototypes below fit what it exports is assumed, and tested; a program has to
- * take the header that came with its library, since nothing checks that the two belong together.
+ * What is proved is proved of the library's source. That its machine code does the same, and that the prototypes below fit what it exports,
+ * is assumed, and tested. Take the header that came with the library: nothing checks that the two belong together.
  */
 #ifndef AURASKI_H
 #define AURASKI_H
@@ -28,7 +28,8 @@
 #define AURASKI_VERSION_MINOR 2
 #define AURASKI_VERSION_PATCH 0
 
-/* GCC and clang warn of an answer that is not looked at, and of a null pointer where they see that it is one. */
+/* GCC and clang warn of an answer that is not looked at, and of a null pointer where they see that it is one; where they don't, they go by
+ * it that it is none. */
 #if defined(__GNUC__) && __GNUC__ >= 4
 #define AURASKI_CHECKED __attribute__((__warn_unused_result__, __nonnull__))
 #else
