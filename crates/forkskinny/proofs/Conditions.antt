@@ -5,16 +5,18 @@ use mathlib.Core.Bool.{Bool, true, false, cond}
 use mathlib.Core.List.{List}
 use Prim.Native.Nat.{ℕ, zero, suc, _<_}
 use native.Mathlib.Omega.{arith}
+use lib.ListN.{take}
 use borrow.Author.Tests.{lt-ltb, le-ltb, ne-eqb}
 use Rattle.ciphers.specs.declared.Cipher.{Cipher}
 use Rattle.ciphers.specs.declared.Cipher.the-variants.{N64T192, N128T256}
-use Rattle.ciphers.specs.Ciphers.{widthOf, counted}
-use Rattle.cells.specs.Cells.{Bytes, Block}
+use Rattle.ciphers.specs.Ciphers.{widthOf, blockOf, counted}
+use Rattle.cells.specs.Cells.{Width, Nibble, Byte, Bytes, Block}
+use Rattle.cells.proofs.Choice.{either}
 use Rattle.forkskinny.specs.declared.Forked.{Forked}
 use Rattle.forkskinny.specs.declared.Unforked.{Unforked}
 use Rattle.forkskinny.specs.ForkSkinny.{half, input, other, otherOf}
-use Rattle.forkskinny.specs.Calls.{wants, numberOf, forkRefused, forkBy, forkOf, unforkRefused, unforkBy, unforkOf}
-use Rattle.forkskinny.proofs.Forkcipher.{input-half, other-half, half-input}
+use Rattle.forkskinny.specs.Calls.{zeros, given, wants, numberOf, forkRefused, forkBy, forkOf, unforkRefused, unforkBy, unforkOf}
+use Rattle.forkskinny.proofs.Forkcipher.{input-half, other-half, half-input, half-behind, input-behind, other-behind, half-front, input-front, other-front}
 
 -- ---- the calls as the paper writes them, for a cipher c and a half h
 
@@ -104,6 +106,54 @@ module _ (c : Cipher) (key tweak : List ℕ) where
 
   pub unfork-takes : (x : List ℕ) (h want : ℕ) → h < 2 → want < 3 → (unforkOf (numberOf c) key tweak x h want) .number ≡ 0
   unfork-takes x h want p q = ap (λ (f : Unforked). f .number) (unforks c key tweak x h want p q)
+
+  -- ---- of tweak and block the cipher's bytes count alone, and what was not asked for comes back as zeros
+
+  pub fork-front : (m : List ℕ) (want : ℕ) → want < 3
+      → forkOf (numberOf c) key (take (blockOf c) tweak) (take (blockOf c) m) want ≡ forkOf (numberOf c) key tweak m want
+  fork-front m want p =
+      rw (forks c key (take (blockOf c) tweak) (take (blockOf c) m) want p, forks c key tweak m want p, half-front c key tweak 0 m, half-front c key tweak 1 m)
+
+  pub unfork-front : (x : List ℕ) (h want : ℕ) → h < 2 → want < 3
+      → unforkOf (numberOf c) key (take (blockOf c) tweak) (take (blockOf c) x) h want ≡ unforkOf (numberOf c) key tweak x h want
+  unfork-front x h want p q =
+      rw (unforks c key (take (blockOf c) tweak) (take (blockOf c) x) h want p q, unforks c key tweak x h want p q, input-front c key tweak h x, other-front c key tweak h x)
+
+  pub fork-unasked : (m : List ℕ) → ((forkOf (numberOf c) key tweak m 0) .half1 ≡ zeros) × ((forkOf (numberOf c) key tweak m 1) .half0 ≡ zeros)
+  unfolding wants
+  fork-unasked m = (
+    ap (λ (f : Forked). f .half1) (forks c key tweak m 0 (omega arith)),
+    ap (λ (f : Forked). f .half0) (forks c key tweak m 1 (omega arith)),
+  )
+
+  pub unfork-unasked : (x : List ℕ) (h : ℕ) → h < 2
+      → ((unforkOf (numberOf c) key tweak x h 0) .other ≡ zeros) × ((unforkOf (numberOf c) key tweak x h 1) .input ≡ zeros)
+  unfolding wants
+  unfork-unasked x h p = (
+    ap (λ (f : Unforked). f .other) (unforks c key tweak x h 0 p (omega arith)),
+    ap (λ (f : Unforked). f .input) (unforks c key tweak x h 1 p (omega arith)),
+  )
+
+-- ---- every block that a call gives has zeros behind the cipher's bytes
+
+given-behind : (w : Width) (asked : Bool) (b : List ℕ) → counted w b ≡ b → counted w (given asked b) ≡ given asked b
+given-behind Nibble asked b e = either (λ (l : List ℕ). counted Nibble l ≡ l) asked b zeros e refl
+given-behind Byte asked b e = refl
+
+module _ (c : Cipher) (key tweak : List ℕ) where
+  pub fork-behind : (m : List ℕ) (want : ℕ) → want < 3
+      → let f = forkOf (numberOf c) key tweak m want in
+      (counted (widthOf c) (f .half0) ≡ f .half0) × (counted (widthOf c) (f .half1) ≡ f .half1)
+  fork-behind m want p =
+      rw (forks c key tweak m want p)
+      (given-behind (widthOf c) (wants 0 want) _ (half-behind c key tweak 0 m), given-behind (widthOf c) (wants 1 want) _ (half-behind c key tweak 1 m))
+
+  pub unfork-behind : (x : List ℕ) (h want : ℕ) → h < 2 → want < 3
+      → let f = unforkOf (numberOf c) key tweak x h want in
+      (counted (widthOf c) (f .input) ≡ f .input) × (counted (widthOf c) (f .other) ≡ f .other)
+  unfork-behind x h want p q =
+      rw (unforks c key tweak x h want p q)
+      (given-behind (widthOf c) (wants 0 want) _ (input-behind c key tweak h x), given-behind (widthOf c) (wants 1 want) _ (other-behind c key tweak h x))
 
 -- ---- every other call is refused, for its cipher, its choice or its half; and any two results that a contract allows are equal
 

@@ -11,7 +11,7 @@ use Rattle.ciphers.specs.declared.Cipher.{Cipher}
 use Rattle.ciphers.specs.Ciphers.{widthOf, blockOf, counted, tk}
 use Rattle.ciphers.proofs.Laws.{tk-low, tk-front, load-front}
 use Rattle.forkskinny.specs.ForkSkinny.{sideOf, forked, branch, unbranch, unforked, half, input, otherOf, other}
-use Rattle.forkskinny.proofs.Ways.{unload-long, forked-counted, forked-cells, unforked-block, unforked-forked, forked-unforked, branch-block, unbranch-cells, unbranch-branch, branch-unbranch}
+use Rattle.forkskinny.proofs.Ways.{unload-long, unload-counted, forked-counted, forked-cells, unforked-block, unforked-forked, forked-unforked, branch-block, unbranch-cells, unbranch-branch, branch-unbranch}
 
 -- for every key and tweak of bytes, every half h and every block
 module _ (c : Cipher) (key tweak : List ℕ) (hk : Bytes key) (ht : Bytes tweak) where
@@ -85,6 +85,21 @@ module _ (c : Cipher) (key tweak : List ℕ) (h : ℕ) (x : List ℕ) where
   pub other-long : length (other c key tweak h x) ≡ 16
   unfolding other branch
   other-long = unload-long (widthOf c) _
+
+-- ---- and behind the cipher's bytes it has zeros: it is the part of itself that counts
+
+module _ (c : Cipher) (key tweak : List ℕ) (h : ℕ) (x : List ℕ) where
+  pub half-behind : counted (widthOf c) (half c key tweak h x) ≡ half c key tweak h x
+  unfolding half branch
+  half-behind = unload-counted (widthOf c) _
+
+  pub input-behind : counted (widthOf c) (input c key tweak h x) ≡ input c key tweak h x
+  unfolding input unforked
+  input-behind = unload-counted (widthOf c) _
+
+  pub other-behind : counted (widthOf c) (other c key tweak h x) ≡ other c key tweak h x
+  unfolding other branch
+  other-behind = unload-counted (widthOf c) _
 
 -- ---- of a tweak and a block only the cipher's bytes are read, whatever stands behind them
 

@@ -39,6 +39,11 @@ unfolding unload
 unload-long Nibble s = refl
 unload-long Byte s = refl
 
+pub unload-counted : (w : Width) (s : State) → counted w (unload w s) ≡ unload w s
+unfolding unload
+unload-counted Nibble s = refl
+unload-counted Byte s = refl
+
 unload-block : (w : Width) (s : State) → Cells w s → Block 16 (unload w s)
 unload-block w s h = record { long = unload-long w s; bytes = unload-bytes w s h }
 

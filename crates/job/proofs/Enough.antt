@@ -17,7 +17,7 @@ use Rattle.sealing.specs.Schemes.{schemeOf}
 use Rattle.sealing.specs.Checks.{checkOf}
 use Rattle.sealing.specs.Calls.{Told, under, opened, sealUnder, openUnder, sealOf, openOf}
 use Rattle.sealing.proofs.Table.{each-named}
-use Rattle.modes.proofs.Choice.{chosen, either}
+use Rattle.cells.proofs.Choice.{chosen, either}
 use Rattle.sealing.proofs.Ways.{passed-all}
 use Rattle.job.specs.Sections.{sectionOf}
 use Rattle.job.specs.Job.{isSound, jobOf, directed, fromKey, fromNonce, fromHeader, fromBody}

@@ -11,7 +11,7 @@ use lib.Seq.{take-at}
 use Rattle.sealing.specs.declared.Answer.{Answer}
 use Rattle.sealing.specs.Calls.{Told, told, done}
 use Rattle.sealing.specs.View.{viewOf}
-use Rattle.modes.proofs.Choice.{either}
+use Rattle.cells.proofs.Choice.{either}
 use Rattle.lines.specs.Line.{lineOf}
 use Rattle.job.specs.Job.{jobOf, lineFor, printed}
 

@@ -10,7 +10,7 @@ use native.Mathlib.Omega.{arith}
 use borrow.Author.Tests.{ltb-false, lt-ltb, le-ltb, eqb-true}
 use lib.Dec.{ltb}
 use lib.ListN.{length, take, drop, getD, length-drop, drop-of-length-le}
-use Rattle.modes.proofs.Choice.{either}
+use Rattle.cells.proofs.Choice.{either}
 use Rattle.blocks.proofs.Parts.{part-rest}
 use Rattle.job.specs.Sections.{wholeAt, behindOf, sectionsOf}
 use Rattle.job.specs.Job.{isSound, fromKey, fromNonce, fromHeader, fromBody}

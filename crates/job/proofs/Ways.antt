@@ -6,7 +6,7 @@ use Prim.Native.Nat.{ℕ, zero, suc, _≤_}
 use native.Mathlib.Omega.{arith}
 use lib.ListN.{getD}
 use Rattle.sealing.specs.Calls.{Told, refused, done, forged}
-use Rattle.modes.proofs.Choice.{either}
+use Rattle.cells.proofs.Choice.{either}
 use Rattle.sealing.proofs.Ways.{seal-ways, open-ways}
 use Rattle.job.specs.Job.{isSound, jobOf, directed}
 use Rattle.job.proofs.Reading.{unsound}

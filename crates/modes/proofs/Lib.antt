@@ -1,5 +1,4 @@
 pub mod Bytes
-pub mod Choice
 pub mod Ends
 pub mod Exact
 pub mod PaefLaws

@@ -18,7 +18,7 @@ use Rattle.modes.specs.Forkcipher.{Fork}
 use Rattle.modes.specs.Mode.{walkFrom, walk, headed}
 use Rattle.modes.specs.Paef.{Sum, be16, paefTweak, paefHead, paefBody, sumTweak, paef}
 use Rattle.modes.specs.Tweaks.{alongFrom, along, headTweaks, bodyTweaks, paefTweaks, Distinct}
-use Rattle.modes.proofs.Choice.{either}
+use Rattle.cells.proofs.Choice.{either}
 use Rattle.modes.proofs.Rest.{before-last-none}
 
 -- ---- a tweak tells its flag and its number

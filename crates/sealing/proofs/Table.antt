@@ -11,7 +11,7 @@ use Rattle.sealing.specs.declared.schemes.Named.{Named}
 use Rattle.sealing.specs.declared.schemes.Named.the-variants.{Known, Unknown}
 use Rattle.sealing.specs.Schemes.{scheme1, scheme2, scheme3, schemeOf, Fits}
 use Rattle.sealing.specs.Calls.{under, sealUnder, openUnder, sealOf, openOf}
-use Rattle.modes.proofs.Choice.{either}
+use Rattle.cells.proofs.Choice.{either}
 
 -- ---- what the numbers name
 

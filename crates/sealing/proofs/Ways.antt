@@ -14,7 +14,7 @@ use Rattle.sealing.specs.declared.schemes.Named.the-variants.{Known, Unk
 use Rattle.sealing.specs.Schemes.{schemeOf}
 use Rattle.sealing.specs.Calls.{Told, told, refused, done, forged, passed, under}
 use Rattle.sealing.specs.Calls.{sealed, opened, sealUnder, openUnder, sealOf, openOf}
-use Rattle.modes.proofs.Choice.{either}
+use Rattle.cells.proofs.Choice.{either}
 use Rattle.sealing.proofs.Passed.{check-most}
 
 -- ---- for any property of what is told
