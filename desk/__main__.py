@@ -2,13 +2,9 @@
 import os
 import sys
 
-from command_line import parser
-from trouble import Trouble
-
-
-def complain(text):
-    for sentence in str(text).split("\n"):
-        print(f"desk: {sentence}", file=sys.stderr)
+import stopping
+from command_line import parsed, parser
+from trouble import Trouble, complain
 
 
 def give_up_output():
@@ -21,7 +17,7 @@ def answered(words):
         parser().print_help(sys.stderr)
         return 2
     try:
-        args = parser().parse_args(words)
+        args = parsed(words)
     except SystemExit:  # --help was shown
         return 0
     return args.action(args)
@@ -41,11 +37,13 @@ def main(words):
     # Names and stories may hold what the terminal's encoding does not.
     sys.stdout.reconfigure(errors="backslashreplace")
     try:
+        stopping.watch()
         return flushed(words)
     except Trouble as trouble:
         complain(trouble)
-    except KeyboardInterrupt:
-        complain("stopped from the keyboard")
+    except stopping.Stopped as stopped:
+        complain(stopped)
+        stopping.end_by(stopped.number)
     except BrokenPipeError:
         complain("stopped, for nobody reads the output any more")
         give_up_output()

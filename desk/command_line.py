@@ -1,10 +1,28 @@
 """The words after tools/desk."""
 import argparse
+import sys
 
 import commands
 import helps
 import jobs
+from slips import HELP, Words, is_option, listed, meant
 from trouble import Trouble
+
+NEEDED = (("--scheme",), ("--key",), ("--nonce",), ("--header",))
+BEHIND = "; a value stands behind its option, in quotes if it has spaces"
+
+
+def job_words(*last):
+    needed = NEEDED + (last,)
+    return Words(sum(needed, ()) + ("--job", "--out"), ("--quiet",), needed, 0, BEHIND)
+
+
+WORDS = {
+    "seal": job_words("--body"),
+    "open": job_words("--sealed", "--body"),
+    "run": Words(most=sys.maxsize),
+    "explain": Words(most=1, why="; explain takes one number"),
+}
 
 
 class Parser(argparse.ArgumentParser):
@@ -31,12 +49,13 @@ def add_command(kinds, name, what, about, more):
 
 def add_job_options(kind, direction, last_names, last_help):
     kind.add_argument("--scheme", metavar="N", required=True, action=Once, help=helps.SCHEME)
-    kind.add_argument("--key", metavar="VALUE", required=True, action=Once, help="16 bytes")
+    kind.add_argument("--key", metavar="VALUE", required=True, action=Once, help=helps.KEY)
     kind.add_argument("--nonce", metavar="VALUE", required=True, action=Once, help="6, 14 or 15 bytes, by the scheme")
-    kind.add_argument("--header", metavar="VALUE", action=Once, help="empty if left out")
-    kind.add_argument(*last_names, dest="body", metavar="VALUE", action=Once, help=last_help)
-    kind.add_argument("--job", metavar="FILE", action=Once, help="also write the job's bytes, for `sealjob < FILE`")
+    kind.add_argument("--header", metavar="VALUE", required=True, action=Once, help="- for an empty one")
+    kind.add_argument(*last_names, dest="body", metavar="VALUE", required=True, action=Once, help=last_help)
+    kind.add_argument("--job", metavar="FILE", action=Once, help=helps.JOB_FILE)
     kind.add_argument("--out", metavar="FILE", action=Once, help=helps.OUT)
+    kind.add_argument("--quiet", action="store_true", help=helps.QUIET)
     kind.set_defaults(action=commands.one_job, direction=direction, last=last_names[0])
 
 
@@ -45,9 +64,9 @@ def parser():
                  formatter_class=argparse.RawDescriptionHelpFormatter)
     kinds = top.add_subparsers(title="commands", metavar="COMMAND", required=True, parser_class=Parser)
     seal = add_command(kinds, "seal", "seal a body under a header", helps.SEAL, helps.JOB + helps.SEAL_EXAMPLE)
-    add_job_options(seal, jobs.SEAL, ["--body"], "what is sealed; empty if left out")
+    add_job_options(seal, jobs.SEAL, ["--body"], "what is sealed; - for an empty one")
     opening = add_command(kinds, "open", "open a sealed run", helps.OPEN, helps.JOB + helps.OPEN_EXAMPLE)
-    add_job_options(opening, jobs.OPEN, ["--sealed", "--body"], "the sealed run; empty if left out")
+    add_job_options(opening, jobs.OPEN, ["--sealed", "--body"], "the sealed run")
     run = add_command(kinds, "run", "run job sheets and raw jobs", helps.RUN, helps.SHEET)
     run.add_argument("files", metavar="FILE", nargs="+", help="a sheet, or a raw job if its name ends in .job")
     run.set_defaults(action=commands.run_files)
@@ -55,3 +74,24 @@ def parser():
     explain.add_argument("number", metavar="NUMBER", nargs="?", help="0 to 6, or 9")
     explain.set_defaults(action=commands.explain_number)
     return top
+
+
+def check(words):
+    command, *rest = words
+    if command in WORDS:
+        WORDS[command].check(rest)
+    elif command not in HELP:
+        kind = "option of the desk's" if is_option(command) else "command"
+        raise Trouble(f"{command[:40]!r} is no {kind}{meant(command, list(WORDS))}; "
+                      f"the first word is {listed(list(WORDS), 'or')}")
+    if words == ["run"]:
+        raise Trouble("run needs the name of a sheet or of a raw job")
+
+
+def parsed(words):
+    try:
+        check(words)
+    except Trouble as trouble:
+        command = f"{words[0]} " if words[0] in WORDS else ""
+        raise Trouble(f"{trouble}; `tools/desk {command}--help` shows how") from None
+    return parser().parse_args(words)

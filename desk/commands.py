@@ -1,15 +1,21 @@
-"""The desk's commands. Each reads all that it was given before sealjob is asked for, and gives the exit status."""
+"""The desk's commands. Each reads all that it was given, and makes the files that it will write, before sealjob is asked for, and gives the
+exit status."""
+import contextlib
+import os
 import sys
 import textwrap
 
 import explain
 import jobs
 import sealjob
-from files import refuse_existing, write_file
+from files import NewFile
+from jobs import count
 from tasks import heading, outcome, read_tasks, tally, wanted
-from trouble import placed, plain
-from values import bytes_of, number_of
-from wording import count, meaning
+from trouble import Trouble, complain, placed, plain
+from values import INPUT, bytes_of, number_of
+from wording import meaning
+
+STANDARD = "-"  # standard output, as --out names it
 
 
 def line(label, text, indent=""):
@@ -27,16 +33,28 @@ def warn_if_long(data, job, name):
     if len(data) > jobs.MOST:
         sizes = job.sizes() if job else "no job"
         sys.stdout.flush()
-        print(f"desk: {name} {len(data):,} bytes ({sizes}); sealjob takes {jobs.MOST:,} at most", file=sys.stderr)
+        complain(f"{name} {len(data):,} bytes ({sizes}); sealjob takes {jobs.MOST:,} at most")
 
 
 def typed_job(args):
-    sections = {"--key": args.key, "--nonce": args.nonce, "--header": args.header or "", args.last: args.body or ""}
+    sections = {"--key": args.key, "--nonce": args.nonce, "--header": args.header, args.last: args.body}
     scheme = placed("--scheme", number_of, args.scheme, 255)
+    if list(sections.values()).count(INPUT) > 1:
+        names = [name for name, text in sections.items() if text == INPUT]
+        raise Trouble(f"{' and '.join(names)} would read standard input, which only one value can")
     return jobs.Job(scheme, args.direction, *(placed(name, bytes_of, text) for name, text in sections.items()))
 
 
-def show_answer(job, data, answer):
+def check_places(args):
+    if args.job == STANDARD:
+        raise Trouble("--job needs the name of a file; only --out writes to standard output")
+    if args.out == STANDARD and sys.stdout.isatty():
+        raise Trouble("--out -: standard output is a terminal, and raw bytes are for a file or a pipe")
+    if None not in (args.job, args.out) and os.path.realpath(args.job) == os.path.realpath(args.out):
+        raise Trouble("--job and --out name the same file")
+
+
+def show_words(job, data, answer):
     line("answer", answer.line)
     words("meaning", meaning(data, job, answer))
     if answer.number:
@@ -46,18 +64,42 @@ def show_answer(job, data, answer):
     line("length", count(answer.output))
 
 
+def show_answer(job, data, answer, args):
+    """Standard output has the words; or the hex alone; or, for --out -, the bytes alone."""
+    raw = args.out == STANDARD
+    if args.quiet and answer.number:
+        complain(f"answer {answer.line}: {meaning(data, job, answer)}")
+    elif args.quiet and not raw:
+        print(answer.output.hex() or "-")
+    elif not args.quiet:
+        with contextlib.redirect_stdout(sys.stderr if raw else sys.stdout):
+            show_words(job, data, answer)
+    if raw:
+        sys.stdout.buffer.write(answer.output)
+
+
 def one_job(args):
-    """seal and open."""
+    """seal and open. A job that got no answer leaves no file."""
     job = typed_job(args)
     data = job.laid_out()
-    refuse_existing(*(name for name in (args.job, args.out) if name is not None))
+    check_places(args)
     warn_if_long(data, job, "this job has")
-    if args.job is not None:
-        write_file(args.job, data)
-    answer = sealjob.answer_to(data, sealjob.command())
-    show_answer(job, data, answer)
-    if args.out is not None and answer.number == 0:
-        write_file(args.out, answer.output)
+    with contextlib.ExitStack() as made:
+        job_file = out_file = None
+        if args.job is not None:
+            job_file = made.enter_context(NewFile(args.job, len(data)))
+            job_file.write(data)
+        if args.out not in (None, STANDARD):
+            out_file = made.enter_context(NewFile(args.out, job.most_output()))
+        answer = sealjob.answer_to(data, sealjob.command())
+        if job_file:
+            job_file.keep()
+        try:
+            if out_file and answer.number == 0:
+                out_file.write(answer.output)
+                out_file.keep()
+        finally:  # what was sealed is shown also if the file fails
+            show_answer(job, data, answer, args)
     return 1 if answer.number else 0
 
 

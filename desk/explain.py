@@ -3,6 +3,7 @@ import textwrap
 from collections import namedtuple
 
 from trouble import Trouble
+from values import number_of
 
 Number = namedtuple("Number", "title says next holds")
 
@@ -99,7 +100,7 @@ def listed():
 def explain(text):
     if text is None:
         return listed()
-    numbers = [number for number in NUMBERS if str(number) == text]
-    if not numbers:
-        raise Trouble(f"{text[:40]!r} is no answer number; they are 0 to 6 and 9")
-    return explained(numbers[0])
+    try:
+        return explained(number_of(text, 9))
+    except (Trouble, KeyError):
+        raise Trouble(f"{text[:40]!r} is no answer number; they are 0 to 6 and 9") from None

@@ -1,43 +1,89 @@
-"""Files read whole and never past a limit, and files written only where there was none."""
+"""Files read whole and never past a limit, and files made only where there was none, for their owner alone to read."""
+import errno
 import os
+import sys
 
-from trouble import Trouble, plain
+from trouble import Trouble, complain, plain
+
+NEW = os.O_WRONLY | os.O_CREAT | os.O_EXCL | os.O_CLOEXEC
+# What a file system says that can't set room aside: then nothing is known before the writing.
+UNABLE = (errno.EOPNOTSUPP, errno.ENOSYS, errno.EINVAL, errno.ENODEV)
 
 
-def read_file(name, most):
+def limited(reading, name, most):
     try:
-        with open(name, "rb") as file:
-            data = file.read(most + 1)
+        data = reading(most + 1)
     except OSError as error:
-        raise Trouble(f"{plain(name)} can't be read: {error.strerror}") from None
+        raise Trouble(f"{name} can't be read: {error.strerror}") from None
     if len(data) > most:
-        raise Trouble(f"{plain(name)} has more than {most:,} bytes")
+        raise Trouble(f"{name} has more than {most:,} bytes")
     return data
 
 
-def refuse_existing(*names):
-    """Asked before a job is run, so that a run is not made for nothing."""
-    for name in names:
-        if os.path.lexists(name):
-            raise Trouble(f"{plain(name)} is there already, and the desk overwrites no file")
-    places = [os.path.realpath(name) for name in names]
-    if len(set(places)) < len(places):
-        raise Trouble("--job and --out name the same file")
+def read_file(name, most):
+    def reading(size):
+        with open(name, "rb") as file:
+            return file.read(size)
+    return limited(reading, plain(name), most)
 
 
-def unwritten(name, error):
-    return Trouble(f"{plain(name)} can't be written: {error.strerror}")
+def read_input(most):
+    if sys.stdin is None:
+        raise Trouble("standard input is closed")
+    if sys.stdin.isatty():
+        complain("reading from the keyboard, each character as it is, up to Ctrl-D")
+    return limited(sys.stdin.buffer.read, "standard input", most)
 
 
-def write_file(name, data):
-    """All of the data or no file. Mode x: a file that came into being meanwhile is left alone too."""
-    try:
-        file = open(name, "xb")
-    except OSError as error:
-        raise unwritten(name, error) from None
-    try:
-        with file:
-            file.write(data)
-    except OSError as error:
-        os.unlink(name)
-        raise unwritten(name, error) from None
+class NewFile:
+    """A file that is made before the job is run, with room for what may be written: no nonce is spent for a file that can't be. It goes
+    away again if it is not kept."""
+
+    def __init__(self, name, room):
+        self.name, self.kept = name, False
+        if os.path.isdir(name):
+            raise Trouble(f"{plain(name)} is a folder; a file is to be named")
+        try:
+            self.file = open(name, "xb", opener=lambda path, _flags: os.open(path, NEW, 0o600))
+        except FileExistsError:
+            raise Trouble(f"{plain(name)} is there already, and the desk overwrites no file") from None
+        except OSError as error:
+            raise self.unwritten(error) from None
+        try:
+            self.set_aside(room)
+        except BaseException:
+            self.__exit__()
+            raise
+
+    def set_aside(self, room):
+        try:
+            os.posix_fallocate(self.file.fileno(), 0, max(room, 1))
+        except OSError as error:
+            if error.errno not in UNABLE:
+                raise self.unwritten(error) from None
+
+    def unwritten(self, error):
+        return Trouble(f"{plain(self.name)} can't be written: {error.strerror}")
+
+    def write(self, data):
+        """All of it, and nothing behind it."""
+        try:
+            self.file.write(data)
+            self.file.flush()
+            os.ftruncate(self.file.fileno(), len(data))
+        except OSError as error:
+            raise self.unwritten(error) from None
+
+    def keep(self):
+        self.kept = True
+
+    def __enter__(self):
+        return self
+
+    def __exit__(self, *_error):
+        try:
+            self.file.close()
+        except OSError:  # what could not be written was told before
+            pass
+        if not self.kept:
+            os.unlink(self.name)

@@ -1,20 +1,36 @@
 """What --help says. Its examples can be typed as they stand."""
 
 SCHEME = "1, 2 or 3; any other up to 255 is handed on and refused"
-OUT = "also write the output's bytes, only after answer 0; neither --job nor --out overwrites a file"
+KEY = "16 bytes; better as @FILE than in hex, see below"
+JOB_FILE = "also write the job's bytes, for `sealjob < FILE`; the key is in them"
+OUT = "also write the output's bytes, only after answer 0; - for standard output, which then gets nothing else"
+QUIET = "print the output's hex alone, - if it is empty; a refusal is one sentence on standard error"
 
 JOB = """\
 values:
-  hex digits, two to a byte; spaces or colons may part bytes; '-' or '' for no bytes;
-  or @FILE for the bytes of a file
+  @FILE  the bytes of a file, as they are; @- those of standard input, for one value only
+  hex    digits, two to a byte; spaces or colons may part bytes
+  -      no bytes
+
+keys:
+  Words on a command line can be seen by others (ps, the shell's history), so give a key as @FILE.
+  To make a key's file, which only its owner can read; the second takes a key in hex from the keyboard:
+    (umask 077; head -c 16 /dev/urandom > card.key)
+    (umask 077; python3 -c 'import sys; sys.stdout.buffer.write(bytes.fromhex(input()))' > card.key)
+
+files:
+  --job and --out make new files, which only their owner can read, and overwrite none. A job holds
+  the key, and body or sealed run, for everyone who can read it; the output of open is the body.
 
 exit status:
   0  done      1  refused      2  bad input, or a file or sealjob failed; a sentence on standard error says what
+  130 after Ctrl-C, as a shell sees it
 """
 
 ABOUT = """\
 Seals and opens records by hand with the proved program sealjob, runs job sheets, and says in
-words what an answer means. `tools/desk COMMAND --help` says more of a command.
+words what an answer means. `tools/desk COMMAND --help` says more of a command. The first job
+that is run has sealjob proved and built, which takes some five minutes.
 """
 
 EXAMPLES = """\
@@ -30,7 +46,7 @@ A nonce must never be used twice under one key.
 
 SEAL_EXAMPLE = """
 example, three limits in half-decibel steps; the header's last byte, 80, names the step:
-  tools/desk seal --scheme 2 --key 5d1c8e40b729f36a910ec4783fd256ab \\
+  tools/desk seal --scheme 2 --key @examples/jobs/sample.key \\
       --nonce 2026:0301:0868:0000:0000:0000:0009 \\
       --header '74 61 62 6c 65 20 38 36 38 4d 20 72 65 76 33 80' --body '24 28 2c'
 """
@@ -42,7 +58,7 @@ answers 6 if there is none. A header that pads to the same block is still anothe
 
 OPEN_EXAMPLE = """
 example:
-  tools/desk open --scheme 2 --key 5d1c8e40b729f36a910ec4783fd256ab \\
+  tools/desk open --scheme 2 --key @examples/jobs/sample.key \\
       --nonce 2026:0301:0868:0000:0000:0000:0009 \\
       --header '74 61 62 6c 65 20 38 36 38 4d 20 72 65 76 33 80' \\
       --sealed 4dd9dc0c2b624c9aa41ffad90ad803f8d9e3f0
@@ -58,12 +74,13 @@ a sheet has one word and its value to a line; unknown and repeated words are ref
   # ..        a comment; those at the top are the story, which is shown
   scheme 2    a number from 0 to 255
   seal        or open; alone on its line
-  key ..      values as for seal: hex digits, '-', or @FILE, counted from the sheet's folder
-  nonce ..
-  header ..   empty if left out
+  key ..      @FILE for the bytes of a file, counted from the sheet's folder; or hex digits
+  nonce ..    so too, and - for no bytes
+  header ..
   body ..     to seal; to open it is: sealed ..
   expect 0    if given: the answer number that is right
   output ..   if given, with expect 0: the output that is right
+A sheet with a key in it is to be kept like the key.
 
 exit status:
   0  every answer is the one that its sheet expects, or 0 where it expects none

@@ -7,6 +7,10 @@ LARGEST = 2 + 4 * (2 + 65535)  # what four sections could come to
 SECTIONS = ("key", "nonce", "header", "body")
 
 
+def count(data):
+    return "1 byte" if len(data) == 1 else f"{len(data):,} bytes"
+
+
 class Job(namedtuple("Job", ("scheme", "direction") + SECTIONS)):
     def laid_out(self):
         front = bytes((self.scheme, self.direction))
@@ -14,6 +18,10 @@ class Job(namedtuple("Job", ("scheme", "direction") + SECTIONS)):
 
     def sizes(self):
         return ", ".join(f"{name} {len(part):,}" for name, part in zip(SECTIONS, self[2:]))
+
+    def most_output(self):
+        """A bound: a sealed run is one block longer than its body, and no block has more than 16 bytes."""
+        return len(self.body) + 16
 
     @property
     def verb(self):
@@ -30,12 +38,12 @@ class NoJob(ValueError):
 
 
 def cut_section(rest, name):
-    count = int.from_bytes(rest[:2], "big")
+    length, behind = int.from_bytes(rest[:2], "big"), rest[2:]
     if len(rest) < 2:
         raise NoJob(f"it is cut short before the {name}'s two-byte count ends")
-    if len(rest) < 2 + count:
-        raise NoJob(f"it is cut short: the {name}'s count says {count:,}, and {len(rest) - 2:,} bytes follow")
-    return rest[2:2 + count], rest[2 + count:]
+    if len(behind) < length:
+        raise NoJob(f"it is cut short: the {name}'s count says {length:,}, with {count(behind)} behind it")
+    return behind[:length], behind[length:]
 
 
 def job_of(data):
@@ -49,7 +57,7 @@ def job_of(data):
         part, rest = cut_section(rest, name)
         parts.append(part)
     if rest:
-        raise NoJob(f"bytes left over behind the body: {len(rest):,}")
+        raise NoJob(f"{count(rest)} left over behind the body")
     return Job(data[0], data[1], *parts)
 
 

@@ -6,24 +6,57 @@ import subprocess
 import sys
 from collections import namedtuple
 
+from stopping import Stopped
 from trouble import Trouble
 
-LAUNCHER = os.path.join(os.path.dirname(os.path.dirname(os.path.abspath(__file__))), "tools", "desk")
+TOOLS = os.path.join(os.path.dirname(os.path.dirname(os.path.abspath(__file__))), "tools")
+UNBUILT = 3  # tools/desk --sealjob says so by its status
 SECONDS = 60  # no job takes a second, also under an emulator
+GRACE = 20  # seconds in which a build that is stopped has ended its provers
 LINE = re.compile(rb"([0-69]) (0|[1-9][0-9]*) (-|(?:[0-9a-f]{2})+)\n")
 
 Answer = namedtuple("Answer", "number output line")
 
 
 def command():
-    """The words that start sealjob: the variable SEALJOB's, else the launcher's, which builds what is missing."""
+    """The words that start sealjob: the variable SEALJOB's, else the launcher's, once tools/program has built what is missing."""
     if os.environ.get("SEALJOB"):
         return given_command(os.environ["SEALJOB"])
     sys.stdout.flush()
-    told = subprocess.run([LAUNCHER, "--sealjob"], stdout=subprocess.PIPE)
-    if told.returncode:
-        raise Trouble("sealjob is not there and could not be built")
-    return os.fsdecode(told.stdout).splitlines()
+    status, words = launched()
+    if status == UNBUILT:
+        build()
+        status, words = launched()
+    if status == UNBUILT:
+        raise Trouble("sealjob was built, and then a crate or the kit changed; nothing was run")
+    if status:
+        raise Trouble("sealjob can't be had, for the reason above, and nothing was run")
+    return words
+
+
+def launched():
+    told = subprocess.run([os.path.join(TOOLS, "desk"), "--sealjob"], stdin=subprocess.DEVNULL, stdout=subprocess.PIPE)
+    return told.returncode, os.fsdecode(told.stdout).splitlines()
+
+
+def build():
+    """tools/program itself ends its provers if it is stopped; so it is asked to, and waited for."""
+    with subprocess.Popen([os.path.join(TOOLS, "program")], stdin=subprocess.DEVNULL, stdout=sys.stderr) as building:
+        try:
+            status = building.wait()
+        except Stopped:
+            building.terminate()
+            end(building)
+            raise
+    if status:
+        raise Trouble("sealjob is not built, for the reason above, and nothing was run")
+
+
+def end(building):
+    try:
+        building.wait(GRACE)
+    except subprocess.TimeoutExpired:
+        building.kill()
 
 
 def given_command(text):

@@ -6,7 +6,7 @@ from explain import NUMBERS
 from files import read_file
 from jobs import OPEN, SEAL, Job
 from trouble import Trouble, placed, plain
-from values import bytes_of, number_of
+from values import INPUT, bytes_of, number_of
 
 MOST = 4 * 1024 * 1024  # four full sections in hex, with room for spaces and words
 ALONE = ("seal", "open")
@@ -76,12 +76,15 @@ def direction_of(name, lines):
     return (OPEN if verb == "open" else SEAL), last
 
 
-def section(name, lines, word, needed=False):
-    if word in lines:
-        return placed(lines[word].place, bytes_of, lines[word].value, os.path.dirname(name))
-    if needed:
-        raise Trouble(f"{plain(name)}: no line '{word}'")
-    return b""
+def section(name, lines, word):
+    """Nothing is empty because its line was forgotten."""
+    if word not in lines:
+        empty = "" if word in ("key", "nonce") else f"; `{word} -` stands for no bytes"
+        raise Trouble(f"{plain(name)}: no line '{word}'{empty}")
+    line = lines[word]
+    if line.value == INPUT:
+        raise Trouble(f"{line.place}: a sheet does not read standard input; a file of that name is @./-")
+    return placed(line.place, bytes_of, line.value, os.path.dirname(name))
 
 
 def scheme_of(name, lines):
@@ -92,10 +95,7 @@ def scheme_of(name, lines):
 
 def job_of(name, lines):
     direction, last = direction_of(name, lines)
-    return Job(
-        scheme_of(name, lines), direction, section(name, lines, "key", True), section(name, lines, "nonce", True),
-        section(name, lines, "header"), section(name, lines, last),
-    )
+    return Job(scheme_of(name, lines), direction, *(section(name, lines, word) for word in ("key", "nonce", "header", last)))
 
 
 def expected(name, lines):

@@ -4,8 +4,8 @@ from collections import namedtuple
 import jobs
 import sheets
 from files import read_file
+from jobs import count
 from trouble import Trouble, plain
-from wording import count
 
 OUTCOMES = ("as expected", "done", "refused", "NOT as expected")
 
@@ -46,7 +46,7 @@ def heading(task):
     if task.job is None:
         return plain(task.name)
     job = task.job
-    sizes = f"header {len(job.header):,}, {job.last} {len(job.body):,} bytes"
+    sizes = f"header {count(job.header)}, {job.last} {count(job.body)}"
     return f"{plain(task.name)}: {job.verb}, scheme {job.scheme}, {sizes}"
 
 

@@ -1,8 +1,14 @@
 """What stops the desk: a sentence for the person at it, and exit status 2."""
+import sys
 
 
 class Trouble(Exception):
     """Its text is one sentence, or several on lines of their own."""
+
+
+def complain(text):
+    for sentence in str(text).split("\n"):
+        print(f"desk: {sentence}", file=sys.stderr)
 
 
 def placed(place, reading, *given):

@@ -1,11 +1,9 @@
 """An answer in words: which check it was, with the lengths that were given and those that the scheme wants."""
+import re
+
 from explain import NUMBERS
-from jobs import why_none
+from jobs import count, why_none
 from schemes import KEY, SCHEMES
-
-
-def count(data):
-    return "1 byte" if len(data) == 1 else f"{len(data):,} bytes"
 
 
 def done(job, answer):
@@ -20,9 +18,16 @@ def no_scheme(job, _scheme):
     return f"given {job.scheme}; there are 1, 2 and 3"
 
 
+def is_hex_text(data):
+    return len(data) > 1 and re.fullmatch(rb"[0-9A-Fa-f\s:]+", data) is not None
+
+
 def lengths(job, scheme):
-    return (f"given a key of {count(job.key)} and a nonce of {len(job.nonce):,}; "
-            f"scheme {job.scheme} wants {KEY} and {scheme.nonce}")
+    """Digits in a file in the place of the bytes that they stand for are the likeliest slip with a key's file."""
+    wrong = [name for name, data, length in (("key", job.key, KEY), ("nonce", job.nonce, scheme.nonce)) if len(data) != length]
+    digits = [name for name in wrong if is_hex_text(getattr(job, name))]
+    return (f"given a key of {count(job.key)} and a nonce of {len(job.nonce):,}; scheme {job.scheme} wants {KEY} and {scheme.nonce}"
+            + (f"; the bytes of the {digits[0]} are hex digits, and a file's bytes are taken as they are" if digits else ""))
 
 
 def too_short(job, scheme):

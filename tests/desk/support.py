@@ -2,6 +2,7 @@
 import os
 import shlex
 import shutil
+import stat
 import subprocess
 import sys
 import tempfile
@@ -62,22 +63,26 @@ class DeskTest(unittest.TestCase):
         self.write("stand-in", script)
         return shlex.join(["sh", self.path("stand-in")])
 
-    def desk(self, *words, program=PROGRAM):
+    def desk(self, *words, program=PROGRAM, **streams):
         """The desk, started in the test's folder."""
+        streams = {"stdin": subprocess.DEVNULL, **streams} if "input" not in streams else streams
         return subprocess.run(
             [sys.executable, "-B", os.path.join(ROOT, "desk"), *words], cwd=self.folder, timeout=100,
-            env={**os.environ, "SEALJOB": program}, stdout=subprocess.PIPE, stderr=subprocess.PIPE, text=True,
+            env={**os.environ, "SEALJOB": program}, **{"stdout": subprocess.PIPE, "stderr": subprocess.PIPE, "text": True, **streams},
         )
 
-    def done(self, *words, status=0, program=PROGRAM):
+    def done(self, *words, status=0, program=PROGRAM, **streams):
         """What the desk prints when it has nothing to complain of."""
-        ended = self.desk(*words, program=program)
+        ended = self.desk(*words, program=program, **streams)
         self.assertEqual((ended.stderr, ended.returncode), ("", status), ended.stdout)
         return ended.stdout
 
-    def complains(self, sentence, *words, program="false"):
+    def mode(self, name):
+        return stat.S_IMODE(os.stat(self.path(name)).st_mode)
+
+    def complains(self, sentence, *words, program="false", **streams):
         """Status 2, one sentence and nothing else; `false` in sealjob's place would be complained of otherwise."""
-        ended = self.desk(*words, program=program)
+        ended = self.desk(*words, program=program, **streams)
         self.assertEqual(ended.returncode, 2, ended)
         self.assertEqual(ended.stderr.count("\n"), 1, ended.stderr)
         self.assertTrue(ended.stderr.startswith("desk: "), ended.stderr)

@@ -24,6 +24,8 @@ class Meanings(support.DeskTest):
             (2, Job(2, 0, KEY[1:], NONCE, b"", b""), "given a key of 15 bytes and a nonce of 14; scheme 2 wants 16 and 14"),
             (2, Job(3, 0, KEY, NONCE, b"", b""), "given a key of 16 bytes and a nonce of 14; scheme 3 wants 16 and 15"),
             (2, Job(1, 0, KEY, NONCE, b"", b""), "scheme 1 wants 16 and 6"),
+            (2, Job(2, 0, b"0a" * 16, NONCE, b"", b""), "; the bytes of the key are hex digits, and a file's bytes are taken as they are"),
+            (2, Job(2, 0, KEY, b"0A:" * 14 + b"\n", b"", b""), "; the bytes of the nonce are hex digits"),
             (3, Job(1, 0, KEY, NONCE, b"", b""), "refused, header or body too long"),
             (4, Job(1, 1, KEY, NONCE, b"", bytes(7)), "given 7 bytes, a block of scheme 1 has 8"),
             (5, Job(2, 0, KEY, NONCE, b"", b""), "refused, room shorter than the output"),
@@ -32,6 +34,10 @@ class Meanings(support.DeskTest):
         ):
             with self.subTest(number=number):
                 self.assertIn(words, said(number, job))
+
+    def test_digits_that_fit(self):
+        """A key of the right length is no slip, whatever its bytes."""
+        self.assertNotIn("digits", said(2, Job(2, 0, b"0" * 16, b"", b"", b"")))
 
     def test_unfitting(self):
         """What sealjob says is told, also where the desk can't see why."""

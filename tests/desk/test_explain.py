@@ -1,6 +1,8 @@
 """explain and --help."""
+import os
 import re
 import shlex
+import subprocess
 
 import support
 
@@ -30,12 +32,21 @@ class Explain(support.DeskTest):
             self.assertIn(f"{number}  {title}\n", shown)
 
     def test_no_number(self):
-        for text in ("7", "8", "06", "six", "", "-"):
+        for text in ("7", "8", "07", "10", "six", "", "-", "-1", "6.0"):
             with self.subTest(text):
                 self.complains("is no answer number; they are 0 to 6 and 9", "explain", text)
 
 
+    def test_zeros_before_a_number(self):
+        self.assertEqual(self.done("explain", "006", program="false"), self.done("explain", "6", program="false"))
+
+
 class Help(support.DeskTest):
+    def setUp(self):
+        """Its examples name files of the project's folder."""
+        super().setUp()
+        os.symlink(os.path.join(support.ROOT, "examples"), self.path("examples"))
+
     def examples(self, *words):
         text = self.done(*words, "--help", program="false")
         self.assertIn("example", text)
@@ -51,6 +62,15 @@ class Help(support.DeskTest):
         self.done(*explain, program="false")
         self.assertEqual(self.examples("run"), [["run", "examples/jobs/*.sheet"]])
         self.assertEqual(self.examples()[:1], self.examples("run"))
+
+    def test_key_files(self):
+        """The commands that make a key's file do, and only its owner can read it."""
+        random, typed = re.findall(r"^    (\(umask .*card\.key\))$", self.done("seal", "--help", program="false"), re.M)
+        for command, given in ((random, ""), (typed, support.KEY + "\n")):
+            subprocess.run(["bash", "-ec", command], cwd=self.folder, input=given, text=True, check=True)
+            self.assertEqual((len(self.read("card.key")), self.mode("card.key")), (16, 0o600))
+            os.rename(self.path("card.key"), self.path("last.key"))
+        self.assertEqual(self.read("last.key").hex(), support.KEY)
 
     def test_alone(self):
         ended = self.desk(program="false")

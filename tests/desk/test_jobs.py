@@ -22,8 +22,10 @@ class Jobs(support.DeskTest):
             ("0100", "before the key's two-byte count"),
             ("0100" + "00", "before the key's two-byte count"),
             ("0100" + "0000" * 3, "before the body's two-byte count"),
-            ("0100" + "0000" + "0100aabb", "the nonce's count says 256, and 2 bytes follow"),
-            ("0100" + "0000" * 4 + "ab", "left over behind the body: 1"),
+            ("0100" + "0000" + "0100aabb", "the nonce's count says 256, with 2 bytes behind it"),
+            ("0100" + "0002" + "ab", "the key's count says 2, with 1 byte behind it"),
+            ("0100" + "0000" * 4 + "ab", "1 byte left over behind the body"),
+            ("0100" + "0000" * 4 + "abcd", "2 bytes left over behind the body"),
         ):
             with self.subTest(data), self.assertRaises(NoJob) as caught:
                 job_of(bytes.fromhex(data))

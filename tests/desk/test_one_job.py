@@ -18,11 +18,11 @@ class OneJob(support.DeskTest):
         as_body = ["--body" if word == "--sealed" else word for word in OPEN]
         self.assertEqual(self.done(*as_body).split("\n"), shown)
 
-    def test_nothing_given_is_empty(self):
-        words = replaced(replaced(SEAL, "--header", None), "--body", None)
-        shown = self.done(*words)
+    def test_empty(self):
+        shown = self.done(*replaced(replaced(SEAL, "--header", "-"), "--body", "-"))
         self.assertRegex(shown, "^answer   0 16 [0-9a-f]{32}\n")
-        self.assertEqual(shown, self.done(*words, "--header", "-", "--body", ""))
+        self.write("empty", b"")
+        self.assertEqual(shown, self.done(*replaced(replaced(SEAL, "--header", "@empty"), "--body", "@-")))
 
     def test_empty_body_opened(self):
         sealed = self.done(*replaced(SEAL, "--body", "-")).split()[3]
@@ -34,9 +34,9 @@ class OneJob(support.DeskTest):
             (1, replaced(SEAL, "--scheme", "0")),
             (1, replaced(SEAL, "--scheme", "255")),
             (2, replaced(SEAL, "--key", "aa" * 15)),
-            (2, replaced(SEAL, "--nonce", "")),
+            (2, replaced(SEAL, "--nonce", "-")),
             (4, replaced(OPEN, "--sealed", SEALED[:30])),
-            (4, replaced(OPEN, "--sealed", None)),
+            (4, replaced(OPEN, "--sealed", "-")),
             (6, replaced(OPEN, "--header", support.HEADER[:30])),
             (6, replaced(OPEN, "--sealed", "00" + SEALED[2:])),
         ):
@@ -57,7 +57,7 @@ class OneJob(support.DeskTest):
         self.assertEqual(self.read("seal.job"), JOB)
         self.done(*OPEN, "--job", "open.job")
         self.assertEqual(self.read("open.job"), b"\x02\x01" + JOB[2:-8] + b"\x00\x16" + bytes.fromhex(SEALED))
-        self.done("seal", "--scheme", "1", "--key", "-", "--nonce", "-", "--job", "none.job", status=1)
+        self.done("seal", "--scheme", "1", "--key", "-", "--nonce", "-", "--header", "-", "--body=-", "--job", "none.job", status=1)
         self.assertEqual(self.read("none.job").hex(), "01000000000000000000")
 
     def test_out(self):

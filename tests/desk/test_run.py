@@ -9,7 +9,7 @@ class Run(support.DeskTest):
     def test_sheet(self):
         self.write("a.sheet", EXPECTED)
         self.assertEqual(self.done("run", "a.sheet"), f"""\
-a.sheet: seal, scheme 2, header 16, body 6 bytes
+a.sheet: seal, scheme 2, header 16 bytes, body 6 bytes
   A story.
   answer   0 22 {SEALED}
   meaning  done: sealed, 22 bytes, one block more than the body's 6 (as expected)
@@ -20,7 +20,7 @@ a.sheet: seal, scheme 2, header 16, body 6 bytes
     def test_raw_job(self):
         self.write("a.job", JOB)
         self.assertEqual(self.done("run", "a.job"), f"""\
-a.job: seal, scheme 2, header 16, body 6 bytes
+a.job: seal, scheme 2, header 16 bytes, body 6 bytes
   A raw job of 62 bytes.
   answer   0 22 {SEALED}
   meaning  done: sealed, 22 bytes, one block more than the body's 6

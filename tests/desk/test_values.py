@@ -11,7 +11,7 @@ class Values(support.DeskTest):
                 self.assertEqual(bytes_of(text), b"\x0a\xff\x80")
 
     def test_no_bytes(self):
-        for text in ("", "-", " ", " - "):
+        for text in ("-", " - "):
             with self.subTest(text):
                 self.assertEqual(bytes_of(text), b"")
 
@@ -22,14 +22,15 @@ class Values(support.DeskTest):
 
     def test_wrong_hex(self):
         self.refuses("3 hex digits from character 1 on, an odd number", bytes_of, "abc")
-        self.refuses("1 hex digits from character 4 on", bytes_of, "ab c")
-        self.refuses("1 hex digits from character 1 on", bytes_of, "1 2")
+        self.refuses("1 hex digit alone at character 4; two make a byte", bytes_of, "ab c")
+        self.refuses("1 hex digit alone at character 1", bytes_of, "1 2")
         self.refuses("'g', character 3 of the value, is no hex digit", bytes_of, "abg")
         self.refuses("'x', character 2 of the value", bytes_of, "0x12")
         self.refuses("'-', character 6 of the value", bytes_of, "ab cd-ef")
         self.refuses("'\\xa0', character 3", bytes_of, "ab\xa0cd")
         self.refuses("'٢', character 1", bytes_of, "٢٢")
-        self.refuses("no hex digits", bytes_of, ":")
+        for text in (":", "", " "):
+            self.refuses("no hex digits; '-' stands for no bytes", bytes_of, text)
 
     def test_longest(self):
         self.assertEqual(len(bytes_of("ab" * 65535)), 65535)
