@@ -1,11 +1,14 @@
 """What the desk's tests have in common: the desk as a person starts it, programs in sealjob's place, a folder that goes away."""
+import importlib.util
 import os
 import shlex
 import shutil
+import signal
 import stat
 import subprocess
 import sys
 import tempfile
+import traceback
 import unittest
 
 # Nothing is left beside the sources.
@@ -14,6 +17,10 @@ ROOT = os.path.dirname(os.path.dirname(os.path.dirname(os.path.abspath(__file__)
 sys.path.insert(0, os.path.join(ROOT, "desk"))
 
 import sealjob
+
+START = importlib.util.spec_from_file_location("desk_main", os.path.join(ROOT, "desk", "__main__.py"))
+desk_main = importlib.util.module_from_spec(START)
+START.loader.exec_module(desk_main)
 
 KEY = "5d1c8e40b729f36a910ec4783fd256ab"
 NONCE = "2026030108680000000000000001"
@@ -41,6 +48,31 @@ def replaced(words, option, value):
     return words[:at] + ([] if value is None else [option, value]) + words[at + 2:]
 
 
+def encoded(data):
+    return data.encode() if isinstance(data, str) else data
+
+
+def become_desk(words, folder, program, prepare, streams):
+    """Does not come back. A desk that hangs is ended by an alarm."""
+    status = 70
+    try:
+        signal.alarm(100)
+        os.chdir(folder)
+        os.environ["SEALJOB"] = program
+        for number, name in enumerate(("stdin", "stdout", "stderr")):
+            stream = streams[name]
+            os.dup2(stream if isinstance(stream, int) else stream.fileno(), number)
+            setattr(sys, name, open(number, "w" if number else "r", 1 if name == "stderr" else -1, closefd=False))
+        if prepare:
+            prepare()
+        status = desk_main.main(list(words))
+    except BaseException:
+        traceback.print_exc()
+    finally:
+        sys.stderr.flush()
+        os._exit(status)
+
+
 class DeskTest(unittest.TestCase):
     def setUp(self):
         self.folder = tempfile.mkdtemp()
@@ -51,7 +83,7 @@ class DeskTest(unittest.TestCase):
 
     def write(self, name, data):
         with open(self.path(name), "wb") as file:
-            file.write(data.encode() if isinstance(data, str) else data)
+            file.write(encoded(data))
         return name
 
     def read(self, name):
@@ -63,13 +95,17 @@ class DeskTest(unittest.TestCase):
         self.write("stand-in", script)
         return shlex.join(["sh", self.path("stand-in")])
 
-    def desk(self, *words, program=PROGRAM, **streams):
-        """The desk, started in the test's folder."""
-        streams = {"stdin": subprocess.DEVNULL, **streams} if "input" not in streams else streams
-        return subprocess.run(
-            [sys.executable, "-B", os.path.join(ROOT, "desk"), *words], cwd=self.folder, timeout=100,
-            env={**os.environ, "SEALJOB": program}, **{"stdout": subprocess.PIPE, "stderr": subprocess.PIPE, "text": True, **streams},
-        )
+    def desk(self, *words, program=PROGRAM, prepare=None, text=True, **streams):
+        """The desk in a process of its own, in the test's folder; forked, for Python's start would take most of the time."""
+        with tempfile.TemporaryFile() as given, tempfile.TemporaryFile() as out, tempfile.TemporaryFile() as err:
+            given.write(encoded(streams.pop("input", b"")))
+            given.seek(0)
+            child = os.fork()
+            if child == 0:
+                become_desk(words, self.folder, program, prepare, {"stdin": given, "stdout": out, "stderr": err, **streams})
+            status = os.waitstatus_to_exitcode(os.waitpid(child, 0)[1])
+            said = [file.seek(0) or file.read() for file in (out, err)]
+            return subprocess.CompletedProcess(words, status, *(data.decode() if text else data for data in said))
 
     def done(self, *words, status=0, program=PROGRAM, **streams):
         """What the desk prints when it has nothing to complain of."""

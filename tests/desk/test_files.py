@@ -47,7 +47,7 @@ class Files(support.DeskTest):
         self.write("body.bin", bytes(80))
         words = replaced(SEAL, "--body", "@body.bin")
         for option in ("--job", "--out"):
-            self.refused_before("new can't be written: File too large", *words, option, "new", preexec_fn=limit)
+            self.refused_before("new can't be written: File too large", *words, option, "new", prepare=limit)
 
     def test_no_answer_leaves_no_file(self):
         self.complains("status 1", *SEAL, "--job", "a.job", "--out", "a.run")
