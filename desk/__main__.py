@@ -1,6 +1,11 @@
 """The desk: `python3 desk WORDS..`, as tools/desk starts it."""
 import os
+import signal
 import sys
+
+# Until the desk can say a sentence, Ctrl-C ends it without Python's own lines; unless it is to be ignored.
+if signal.getsignal(signal.SIGINT) == signal.default_int_handler:
+    signal.signal(signal.SIGINT, signal.SIG_DFL)
 
 import stopping
 from command_line import parsed, parser
@@ -30,6 +35,20 @@ def flushed(words):
         sys.stdout.flush()
 
 
+def status_of(words):
+    try:
+        return flushed(words)
+    except Trouble as trouble:
+        complain(trouble)
+    except BrokenPipeError:
+        complain("stopped, for nobody reads the output any more")
+        give_up_output()
+    except OSError as error:
+        complain(f"the output can't be written: {error.strerror}")
+        give_up_output()
+    return 2
+
+
 def main(words):
     if sys.stdout is None:
         complain("standard output is closed")
@@ -38,19 +57,10 @@ def main(words):
     sys.stdout.reconfigure(errors="backslashreplace")
     try:
         stopping.watch()
-        return flushed(words)
-    except Trouble as trouble:
-        complain(trouble)
+        return status_of(words)
     except stopping.Stopped as stopped:
         complain(stopped)
-        stopping.end_by(stopped.number)
-    except BrokenPipeError:
-        complain("stopped, for nobody reads the output any more")
-        give_up_output()
-    except OSError as error:
-        complain(f"the output can't be written: {error.strerror}")
-        give_up_output()
-    return 2
+        return stopping.end_by(stopped.number)
 
 
 if __name__ == "__main__":

@@ -1,4 +1,5 @@
 """tools/program and tools/library: what is current, why nothing was built, which kit it was, and that a stop ends the provers."""
+import fcntl
 import os
 import signal
 import subprocess
@@ -69,6 +70,32 @@ class Builds(roots.RootTest):
         self.tool("program")
         self.fails("rt ended with status 1; the whole log is target/program.log", "exit 1")
         self.assertFalse(os.path.exists(self.at("target/bin/sealjob")))
+
+    def test_one_after_the_other(self):
+        os.mkdir(self.at("target"))
+        with open(self.at("target/turn"), "w", encoding="ascii") as turn:
+            fcntl.flock(turn, fcntl.LOCK_EX)
+            building = subprocess.Popen([self.at("tools/program")], env=self.environment(), stdout=subprocess.PIPE, text=True)
+            self.assertEqual(building.stdout.readline(), "program: another build is going on in this folder; waiting for its end ..\n")
+            self.assertEqual(self.asked(), [])
+        self.assertIn("proved 2 of 2: sealjob\n", building.communicate(timeout=50)[0])
+        self.assertEqual((building.returncode, self.asked()), (0, ["check sealjob"]))
+
+    def test_what_another_built_meanwhile(self):
+        self.tool("program")
+        with open(self.at("target/turn"), "w", encoding="ascii") as turn:
+            fcntl.flock(turn, fcntl.LOCK_EX)
+            building = subprocess.Popen([self.at("tools/program")], env=self.environment(), stdout=subprocess.PIPE, text=True)
+            building.stdout.readline()
+        self.assertEqual((building.communicate(timeout=50)[0], building.returncode, self.asked()), ("", 0, ["check sealjob"]))
+
+    def test_rt_forgets_what_it_built(self):
+        """Or it would not build a program again that was removed or changed."""
+        self.tool("program")
+        os.makedirs(self.at("target/stamp"))
+        self.put("target/stamp/sealjob", "built")
+        self.tool("program")
+        self.assertFalse(os.path.exists(self.at("target/stamp/sealjob")))
 
     def test_stopped(self):
         for name, number, group in (("program", signal.SIGINT, True), ("library", signal.SIGTERM, False)):
