@@ -3,7 +3,7 @@ import os
 import re
 
 from files import read_file, read_input
-from trouble import Trouble
+from trouble import Trouble, plain
 
 MOST = 65535  # what a section's two-byte count can say
 DIGITS = frozenset("0123456789abcdefABCDEF")
@@ -29,10 +29,11 @@ def group_bytes(group, place):
 
 
 def hex_bytes(text):
-    """Spaces and colons part whole bytes. So `1 2` is refused, and not read as the one byte 12. An empty text is more likely a shell's
-    variable that was never set than a value."""
+    """Spaces and colons part whole bytes. So `1 2` is refused, and not read as the one byte 12."""
     if text.strip() == "-":
         return b""
+    if not text.strip():  # more likely a shell's variable that was never set than a value
+        raise Trouble("the value is empty; '-' stands for no bytes")
     groups = list(re.finditer(r"[^\s:]+", text, re.ASCII))
     if not groups:
         raise Trouble("no hex digits; '-' stands for no bytes")
@@ -47,7 +48,12 @@ def bytes_of(text, folder=""):
         return read_input(MOST)
     if text.startswith("@"):
         return read_file(os.path.join(folder, text[1:]), MOST)
-    data = hex_bytes(text)
+    try:
+        data = hex_bytes(text)
+    except Trouble as trouble:
+        if os.path.isfile(os.path.join(folder, text)):
+            raise Trouble(f"{trouble}; a file of that name is there, whose bytes are @{plain(text)}") from None
+        raise
     if len(data) > MOST:
         raise Trouble(f"{len(data):,} bytes; a section of a job has {MOST:,} at most")
     return data

@@ -37,7 +37,7 @@ class Input(support.DeskTest):
         for words, option in ((SEAL, "--header"), (SEAL, "--body"), (OPEN, "--header"), (OPEN, "--sealed")):
             self.complains(f"desk: {option} is missing; '-' stands for an empty value;", *replaced(words, option, None))
         self.complains("desk: --scheme, --key, --nonce, --header and --body are missing;", "seal")
-        self.complains("desk: --header: no hex digits; '-' stands for no bytes", *replaced(SEAL, "--header", ""))
+        self.complains("desk: --header: the value is empty; '-' stands for no bytes", *replaced(SEAL, "--header", ""))
         self.complains("--key is given a second time", *SEAL, "--key", "00")
         self.complains("--body is given a second time", *OPEN, "--body", "00")
         self.complains("desk: --out needs a value;", *SEAL, "--out")

@@ -29,8 +29,9 @@ class Values(support.DeskTest):
         self.refuses("'-', character 6 of the value", bytes_of, "ab cd-ef")
         self.refuses("'\\xa0', character 3", bytes_of, "ab\xa0cd")
         self.refuses("'٢', character 1", bytes_of, "٢٢")
-        for text in (":", "", " "):
-            self.refuses("no hex digits; '-' stands for no bytes", bytes_of, text)
+        self.refuses("no hex digits; '-' stands for no bytes", bytes_of, ":")
+        for text in ("", " "):
+            self.refuses("the value is empty; '-' stands for no bytes", bytes_of, text)
 
     def test_longest(self):
         self.assertEqual(len(bytes_of("ab" * 65535)), 65535)
@@ -46,6 +47,8 @@ class Values(support.DeskTest):
         self.refuses("nosuch can't be read: No such file", bytes_of, "@nosuch", self.folder)
         self.refuses("can't be read: Is a directory", bytes_of, "@.", self.folder)
         self.refuses("without the name", bytes_of, "@")
+        self.refuses("'s', character 1 of the value, is no hex digit; a file of that name is there, whose bytes are @some",
+                     bytes_of, "some", self.folder)
 
     def test_number(self):
         self.assertEqual([number_of(text, 255) for text in ("0", "2", "255", "007")], [0, 2, 255, 7])
