@@ -1,4 +1,5 @@
 """Files read whole and never past a limit, and files made only where there was none, for their owner alone to read."""
+import contextlib
 import errno
 import os
 import sys
@@ -81,9 +82,10 @@ class NewFile:
         return self
 
     def __exit__(self, *_error):
-        try:
+        """What can't be removed, or has become another file meanwhile, is left."""
+        made = os.fstat(self.file.fileno())
+        with contextlib.suppress(OSError):  # what could not be written was told before
             self.file.close()
-        except OSError:  # what could not be written was told before
-            pass
-        if not self.kept:
-            os.unlink(self.name)
+        with contextlib.suppress(OSError):
+            if not self.kept and os.path.samestat(made, os.lstat(self.name)):
+                os.unlink(self.name)

@@ -3,6 +3,7 @@ import os
 import shutil
 import signal
 import subprocess
+import sys
 import time
 
 import support
@@ -62,7 +63,7 @@ class RootTest(support.DeskTest):
         """A PATH on which these commands are, and no other."""
         os.makedirs(self.path("alone"), exist_ok=True)
         for name in names:
-            os.symlink(shutil.which(name), self.path(os.path.join("alone", name)))
+            os.symlink(sys.executable if name == "python3" else shutil.which(name), self.path(os.path.join("alone", name)))
         return self.path("alone")
 
     def environment(self, path=None, program=""):

@@ -43,8 +43,8 @@ class Files(support.DeskTest):
     def test_no_room(self):
         """A limit on the size of files stands for a full disk: room is set aside before a job is run."""
         def limit():
-            resource.setrlimit(resource.RLIMIT_FSIZE, (64, 64))
-        self.write("body.bin", bytes(80))
+            resource.setrlimit(resource.RLIMIT_FSIZE, (4096, 4096))
+        self.write("body.bin", bytes(5000))
         words = replaced(SEAL, "--body", "@body.bin")
         for option in ("--job", "--out"):
             self.refused_before("new can't be written: File too large", *words, option, "new", prepare=limit)
@@ -62,6 +62,12 @@ class Files(support.DeskTest):
         program = self.stand_in(f"echo new > {self.path('run.bin')}; echo '0 22 {SEALED}'")
         self.done(*SEAL, "--out", "run.bin", program=program)
         self.assertEqual(self.read("run.bin"), RAW)
+
+    def test_another_file_meanwhile(self):
+        """It is not the desk's to remove."""
+        program = self.stand_in(f"cd {self.folder}; rm a.run; echo other > a.run; echo '6 0 -'")
+        self.done(*SEAL, "--out", "a.run", status=1, program=program)
+        self.assertEqual(self.read("a.run"), b"other\n")
 
     def test_a_link_to_nowhere(self):
         os.symlink("elsewhere", self.path("link"))
