@@ -1,4 +1,4 @@
-"""Slips in the words of a command, found before argparse sees them: each gets a sentence that names the word, and what may be meant by it."""
+"""Slips in the words of a command, found before argparse sees them: each gets a sentence that names the word and what may be meant."""
 import difflib
 
 from trouble import Trouble, plain

@@ -98,7 +98,7 @@ class Builds(roots.RootTest):
         self.assertFalse(os.path.exists(self.at("target/stamp/sealjob")))
 
     def test_stopped(self):
-        for name, number, group in (("program", signal.SIGINT, True), ("library", signal.SIGTERM, False)):
+        for name, number, group in (("program", signal.SIGINT, True), ("library", signal.SIGTERM, False), ("program", signal.SIGQUIT, True)):
             status, said, runs = self.stopped(number, group, name)
             self.assertEqual((status, said[1], runs), (-number, "", False))
             os.unlink(self.at("prover"))
@@ -164,7 +164,8 @@ class Kit(roots.RootTest):
 
     def test_another_logic(self):
         self.rt(roots.PROVES, "a-kit-1 logic 0000")
-        self.refused(f"setup: this kit, 'a-kit-1 logic 0000', has another logic than the one that kit.txt names, '{KIT}', and what is proved")
+        self.refused("setup: this kit, 'a-kit-1 logic 0000', has another logic than the one that kit.txt names, "
+                     f"'{KIT}', and what is proved is relative to the logic. Install that kit; or write this one's line into kit.txt and run")
 
     def test_another_name(self):
         self.rt(roots.PROVES, "a-kit-2 logic 0123456789abcdef")

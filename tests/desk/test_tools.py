@@ -1,6 +1,7 @@
 """Every tool answers --help and refuses unknown words, and does nothing else then; README's commands can be typed as they stand."""
 import os
 import re
+import shutil
 import subprocess
 
 import roots
@@ -14,7 +15,8 @@ class Tools(roots.RootTest):
     def setUp(self):
         """Nothing is on the PATH with which a tool could build, install or fetch."""
         super().setUp()
-        self.few = self.alone("bash", "sh", "env", "dirname", "basename", "readlink", "sed", "python3")
+        shutil.copy(os.path.join(support.ROOT, "tools", "machine"), self.at("tools"))
+        self.few = self.alone("bash", "sh", "env", "dirname", "basename", "readlink", "sed", "uname", "python3")
 
     def listing(self):
         return sorted(os.path.join(folder, name) for folder, _, names in os.walk(self.folder) for name in names)
