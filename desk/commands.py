@@ -80,9 +80,9 @@ def show_answer(job, data, answer, args):
 
 def one_job(args):
     """seal and open. A job that got no answer leaves no file."""
+    check_places(args)
     job = typed_job(args)
     data = job.laid_out()
-    check_places(args)
     warn_if_long(data, job, "this job has")
     with contextlib.ExitStack() as made:
         job_file = out_file = None

@@ -98,9 +98,12 @@ class Builds(roots.RootTest):
         self.assertFalse(os.path.exists(self.at("target/stamp/sealjob")))
 
     def test_stopped(self):
-        for name, number, group in (("program", signal.SIGINT, True), ("library", signal.SIGTERM, False), ("program", signal.SIGQUIT, True)):
+        for name, number, group, ends in (
+            ("program", signal.SIGINT, True, -signal.SIGINT), ("library", signal.SIGTERM, False, -signal.SIGTERM),
+            ("program", signal.SIGQUIT, True, 128 + signal.SIGQUIT),
+        ):
             status, said, runs = self.stopped(number, group, name)
-            self.assertEqual((status, said[1], runs), (-number, "", False))
+            self.assertEqual((status, said[1], runs), (ends, "", False))
             os.unlink(self.at("prover"))
 
 
