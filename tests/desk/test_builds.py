@@ -5,6 +5,7 @@ import signal
 import subprocess
 
 import roots
+import support
 from roots import KIT
 
 BUILT = {"program": "target/bin/sealjob", "library": "target/staticlib/libauraski.a"}
@@ -164,6 +165,11 @@ class Kit(roots.RootTest):
             self.assertEqual((ended.returncode, ended.stdout, self.asked()), (2, "", []), ended)
             self.assertIn(sentence, ended.stderr)
             self.assertEqual(ended.stderr.count("\n"), 1)
+
+    def test_its_file(self):
+        """One line, as `rt version` prints it."""
+        with open(os.path.join(support.ROOT, "kit.txt"), encoding="ascii") as file:
+            self.assertRegex(file.read(), r"\A[a-z0-9-]+ logic [0-9a-f]{16}\n\Z")
 
     def test_another_logic(self):
         self.rt(roots.PROVES, "a-kit-1 logic 0000")
