@@ -1,35 +1,40 @@
 //! Finds libauraski.a for the comparison: in target/staticlib of the
-//! repository's root, or where AURASKI_LIB_DIR says.
+//! repository's root, or where AURASKI_LIB_DIR says. For the benchmark it finds
+//! librival.a too, which tools/bench has put into target/rival.
 
 use std::env;
 use std::path::PathBuf;
 use std::process::exit;
 
-const ARCHIVE: &str = "libauraski.a";
-
-fn library_directory() -> PathBuf {
-    if let Some(directory) = env::var_os("AURASKI_LIB_DIR") {
-        return PathBuf::from(directory);
-    }
+/// A folder of the repository's target.
+fn target(folder: &str) -> PathBuf {
     let here = env::var_os("CARGO_MANIFEST_DIR").expect("cargo sets CARGO_MANIFEST_DIR");
-    PathBuf::from(here).join("../../target/staticlib")
+    PathBuf::from(here).join("../../target").join(folder)
+}
+
+/// The archive goes to the linker as it is, once per program: not bundled.
+fn link(name: &str, directory: PathBuf, advice: &str) {
+    let archive = directory.join(format!("lib{name}.a"));
+    println!("cargo:rerun-if-changed={}", archive.display());
+    if !archive.is_file() {
+        eprintln!("{} is not there.\n{advice}", archive.display());
+        exit(1);
+    }
+    println!("cargo:rustc-link-search=native={}", directory.display());
+    println!("cargo:rustc-link-lib=static:-bundle={name}");
 }
 
 fn main() {
     println!("cargo:rerun-if-env-changed=AURASKI_LIB_DIR");
     println!("cargo:rerun-if-changed=build.rs");
-    if env::var_os("CARGO_FEATURE_LIBRARY").is_none() {
-        return;
+    if env::var_os("CARGO_FEATURE_LIBRARY").is_some() {
+        let named = env::var_os("AURASKI_LIB_DIR").map(PathBuf::from);
+        let directory = named.unwrap_or_else(|| target("staticlib"));
+        let advice =
+            "Build it, or set AURASKI_LIB_DIR, or leave it out with --no-default-features.";
+        link("auraski", directory, advice);
     }
-    let directory = library_directory();
-    let archive = directory.join(ARCHIVE);
-    println!("cargo:rerun-if-changed={}", archive.display());
-    if !archive.is_file() {
-        eprintln!("{} is not there.", archive.display());
-        eprintln!("Build it, or set AURASKI_LIB_DIR, or leave it out with --no-default-features.");
-        exit(1);
+    if env::var_os("CARGO_FEATURE_RIVAL").is_some() {
+        link("rival", target("rival"), "tools/bench builds it.");
     }
-    println!("cargo:rustc-link-search=native={}", directory.display());
-    // Not bundled: the archive goes to the linker as it is, once per program.
-    println!("cargo:rustc-link-lib=static:-bundle=auraski");
 }

@@ -1,20 +1,21 @@
 //! How long one block call takes.
 
+use crate::rival;
 use crate::side::{quickest, Side, Times};
 use compare::auraski::{self, opaque};
 use compare::calls;
 
-type Block = [u8; 16];
+pub type Block = [u8; 16];
 
 /// Calls in a batch.
 pub const CALLS: u32 = 100;
 
 /// One kind of call; `from` is absent forward.
-#[derive(Clone, Copy)]
+#[derive(Clone, Copy, Debug)]
 pub struct Kind {
-    cipher: u32,
-    from: Option<u32>,
-    want: u32,
+    pub cipher: u32,
+    pub from: Option<u32>,
+    pub want: u32,
 }
 
 pub fn cipher_name(cipher: u32) -> &'static str {
@@ -63,52 +64,63 @@ impl Chain {
     }
 }
 
-/// One call of the library.
-fn call_ours(chain: &mut Chain, kind: Kind) -> u32 {
-    let (mut first, mut second) = ([0; 16], [0; 16]);
-    let Chain { key, tweak, block } = &*chain;
+/// What the C sides find in the blocks of their answer, so that a byte not
+/// written is seen.
+const BEFORE: u8 = 0xa5;
+
+/// One call: its number and both blocks.
+pub fn answer(
+    side: Side,
+    kind: Kind,
+    key: &Block,
+    tweak: &Block,
+    block: &Block,
+) -> (u32, Block, Block) {
+    let Kind { cipher, from, want } = kind;
+    let (mut first, mut second) = ([BEFORE; 16], [BEFORE; 16]);
     let room = [&mut first, &mut second];
-    let number = match kind.from {
-        None => auraski::fork(kind.cipher, key, tweak, block, kind.want, room),
-        Some(from) => auraski::unfork(kind.cipher, key, tweak, block, from, kind.want, room),
-    };
-    chain.take_in(&first, &second);
-    number
-}
-
-/// The same call of the second program.
-fn call_second(chain: &mut Chain, kind: Kind) -> u32 {
-    let Chain { key, tweak, block } = &*chain;
-    let (number, first, second) = match kind.from {
-        None => {
-            let answer = calls::fork(kind.cipher, key, tweak, block, kind.want);
-            (answer.number, answer.half0, answer.half1)
+    let number = match (side, from) {
+        (Side::Ours, None) => auraski::fork(cipher, key, tweak, block, want, room),
+        (Side::Ours, Some(from)) => auraski::unfork(cipher, key, tweak, block, from, want, room),
+        (Side::Rival, None) => rival::fork(cipher, key, tweak, block, want, room),
+        (Side::Rival, Some(from)) => rival::unfork(cipher, key, tweak, block, from, want, room),
+        (Side::Second, None) => {
+            let answer = calls::fork(cipher, key, tweak, block, want);
+            return (answer.number, answer.half0, answer.half1);
         }
-        Some(from) => {
-            let answer = calls::unfork(kind.cipher, key, tweak, block, from, kind.want);
-            (answer.number, answer.input, answer.other)
+        (Side::Second, Some(from)) => {
+            let answer = calls::unfork(cipher, key, tweak, block, from, want);
+            return (answer.number, answer.input, answer.other);
         }
     };
-    chain.take_in(&first, &second);
-    number
+    (number, first, second)
 }
 
-/// A batch of calls; refusals are counted so that a number is never unused.
-pub fn run(side: Side, kind: Kind, count: u32) -> u32 {
+/// A batch of calls: the sum of their numbers, which is 0 if none was refused,
+/// and the block that the last one leaves.
+fn chained(side: Side, kind: Kind, count: u32) -> (u32, Block) {
     let mut chain = Chain::new();
     let mut refused = 0;
     for _ in 0..count {
-        refused += match side {
-            Side::Ours => call_ours(&mut chain, opaque(kind)),
-            Side::Second => call_second(&mut chain, opaque(kind)),
-        };
+        let Chain { key, tweak, block } = &chain;
+        let (number, first, second) = answer(side, opaque(kind), key, tweak, block);
+        refused += number;
+        chain.take_in(&first, &second);
     }
-    opaque(chain.block);
-    refused
+    (refused, opaque(chain.block))
 }
 
-/// Times one kind of call.
+pub fn run(side: Side, kind: Kind, count: u32) -> u32 {
+    chained(side, kind, count).0
+}
+
+/// Times one kind of call, of which a batch ends alike on all sides.
 pub fn measure(kind: Kind) -> Times {
+    let ends = Side::ALL.map(|side| chained(side, kind, CALLS));
+    assert!(
+        ends.iter().all(|end| *end == ends[0]),
+        "the sides do not agree: {kind:?}"
+    );
     quickest(CALLS, |side| run(side, kind, CALLS))
 }
 

@@ -5,8 +5,14 @@ use crate::sealing_calls::{Direction, Figure};
 use crate::side::Side;
 use compare::schemes::{Mode, Scheme};
 
-/// What makes a line the second program's.
-pub const DASHES: &str = "stroke-dasharray=\"6 5\"";
+/// What makes a line the rival's or the second program's.
+pub fn dashes_of(side: Side) -> &'static str {
+    match side {
+        Side::Ours => "",
+        Side::Rival => "stroke-dasharray=\"7 5\"",
+        Side::Second => "stroke-dasharray=\"1.5 4\"",
+    }
+}
 
 /// How a scheme's curves look. The curves of schemes 2 and 3 nearly meet, so
 /// that one is wide and pale, and the other drawn on it.
@@ -54,16 +60,23 @@ pub fn name_of(number: u32) -> String {
     format!("scheme {}: {} {}", number, mode, cipher_name(scheme.cipher))
 }
 
+pub fn side_name(side: Side) -> &'static str {
+    match side {
+        Side::Ours => "ours",
+        Side::Rival => "rival",
+        Side::Second => "second program",
+    }
+}
+
 impl Look {
     /// Attributes of a line of this look.
     pub fn line(&self, side: Side) -> String {
-        let dashes = match side {
-            Side::Ours => "",
-            Side::Second => DASHES,
-        };
         format!(
             "stroke=\"{}\" stroke-width=\"{}\" stroke-opacity=\"{}\" {}",
-            self.colour, self.width, self.strength, dashes
+            self.colour,
+            self.width,
+            self.strength,
+            dashes_of(side)
         )
     }
 }
@@ -72,11 +85,8 @@ impl Curve {
     fn new(figures: &[&Figure], number: u32, side: Side) -> Curve {
         let of_scheme = figures.iter().filter(|figure| figure.kind.number == number);
         let point = |figure: &&Figure| {
-            let time = match side {
-                Side::Ours => figure.times.ours,
-                Side::Second => figure.times.second,
-            };
-            (figure.kind.body, time / figure.kind.body as f64)
+            let per_byte = figure.times.of(side) / figure.kind.body as f64;
+            (figure.kind.body, per_byte)
         };
         Curve {
             number,
@@ -87,10 +97,7 @@ impl Curve {
 
     /// What the curve says of one of its points.
     pub fn words(&self, point: (usize, f64)) -> String {
-        let side = match self.side {
-            Side::Ours => "ours",
-            Side::Second => "second program",
-        };
+        let side = side_name(self.side);
         format!(
             "{}, {}, {} bytes: {:.2} ns per byte",
             name_of(self.number),
@@ -111,7 +118,7 @@ pub fn of_direction(figures: &[Figure], direction: Direction) -> Vec<&Figure> {
 pub fn curves_of(figures: &[&Figure]) -> Vec<Curve> {
     let mut curves = Vec::new();
     for number in 1..=3 {
-        for side in [Side::Second, Side::Ours] {
+        for side in [Side::Second, Side::Rival, Side::Ours] {
             curves.push(Curve::new(figures, number, side));
         }
     }

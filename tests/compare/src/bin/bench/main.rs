@@ -1,7 +1,8 @@
-//! How long block calls, sealing and opening take, in the library and in the
-//! second program.
+//! How long block calls, sealing and opening take, in the library, in the rival
+//! and in the second program. Nothing is timed unless they answer alike.
 //!
 //!   bench                                  both tables
+//!   bench agree                            only that all sides answer alike
 //!   bench plot FILE MACHINE                both tables, and the plot into FILE;
 //!                                          MACHINE says in it what this runs on
 //!   bench blocks                           the table of the block calls
@@ -11,14 +12,16 @@
 //!   bench count-seal SIDE DIRECTION SCHEME BODY N
 //!                                          N seals or opens of one kind
 //!
-//! SIDE is ours or second. DIRECTION is fork or unfork of block calls, where
+//! SIDE is ours, rival or second. DIRECTION is fork or unfork of block calls, where
 //! FROM does not count for fork, and else seal or open; BODY is the body's
 //! length. The last two forms are for counting instructions and print nothing.
 
+mod agree;
 mod block_calls;
 mod curves;
 mod panel;
 mod plot;
+mod rival;
 mod scale;
 mod sealing_calls;
 mod side;
@@ -27,13 +30,14 @@ mod tables;
 
 use std::process::exit;
 
-const USAGE: &str = "bench [blocks|sealing]
+const USAGE: &str = "bench [agree|blocks|sealing]
 bench plot FILE MACHINE
-bench count ours|second fork|unfork CIPHER FROM WANT N
-bench count-seal ours|second seal|open SCHEME BODY N";
+bench count ours|rival|second fork|unfork CIPHER FROM WANT N
+bench count-seal ours|rival|second seal|open SCHEME BODY N";
 
-/// Both tables; gives the figures of sealing and opening.
+/// Both tables, once the sides agree; gives the figures of sealing and opening.
 fn print_tables() -> Vec<sealing_calls::Figure> {
+    agree::check();
     tables::print_block_calls();
     println!();
     tables::print_sealing()
@@ -68,6 +72,7 @@ fn obey(words: &[&str]) -> Option<()> {
     match words {
         [] => drop(print_tables()),
         ["plot", file, machine] => draw(file, machine),
+        ["agree"] => println!("{}", agree::check()),
         ["blocks"] => tables::print_block_calls(),
         ["sealing"] => drop(tables::print_sealing()),
         ["count", rest @ ..] => count_blocks(rest)?,

@@ -1,21 +1,21 @@
 //! The plot of nanoseconds per byte by the body's length: a panel for sealing
 //! and one for opening.
 
-use crate::curves::{curves_of, look_of, name_of, of_direction, DASHES};
+use crate::curves::{curves_of, dashes_of, look_of, name_of, of_direction, side_name};
 use crate::panel::{draw_axes, draw_curve, draw_ends};
 use crate::scale::{top_for, Scale};
 use crate::sealing_calls::{Direction, Figure, HEADER, SHORTEST};
 use crate::side::Side;
-use crate::svg::Picture;
+use crate::svg::{Picture, Place};
 
 const NAME: &str = "Auraski: time to seal and to open, per byte of body";
 const WIDTH: f64 = 960.0;
-const HEIGHT: f64 = 520.0;
+const HEIGHT: f64 = 548.0;
 /// Where the panels begin from the left, and their other measures.
 const LEFTS: [f64; 2] = [74.0, 540.0];
 const PANEL_WIDTH: f64 = 360.0;
-const PANEL_TOP: f64 = 142.0;
-const PANEL_BOTTOM: f64 = 460.0;
+const PANEL_TOP: f64 = 158.0;
+const PANEL_BOTTOM: f64 = 488.0;
 
 const TITLE: &str = "font-size=\"20\" font-weight=\"bold\" fill=\"#111827\"";
 const HEADING: &str = "font-size=\"16\" font-weight=\"bold\" fill=\"#111827\"";
@@ -28,8 +28,8 @@ fn scale_for(figures: &[Figure], left: f64) -> Scale {
     let with_body = figures.iter().filter(|figure| figure.kind.body > 0);
     let longest = figures.iter().map(|figure| figure.kind.body).max();
     let per_byte = |figure: &Figure| {
-        let time = figure.times.ours.max(figure.times.second);
-        time / figure.kind.body as f64
+        let times = Side::ALL.map(|side| figure.times.of(side));
+        times.into_iter().fold(0.0, f64::max) / figure.kind.body as f64
     };
     Scale {
         left,
@@ -41,18 +41,23 @@ fn scale_for(figures: &[Figure], left: f64) -> Scale {
     }
 }
 
-/// What the panel shows, and between which numbers the ratios lie.
-fn draw_title(picture: &mut Picture, figures: &[&Figure], direction: Direction, left: f64) {
-    let ratios = figures.iter().map(|figure| figure.times.ratio());
+/// Between which numbers a side's ratio to ours lies.
+fn range_of(figures: &[&Figure], side: Side) -> String {
+    let ratios = figures.iter().map(|figure| figure.times.ratio(side));
     let (least, most) = ratios.fold((f64::MAX, 0.0), |(least, most), ratio| {
         (ratio.min(least), ratio.max(most))
     });
+    format!("{:.2} to {:.2}", least, most)
+}
+
+/// What the panel shows, and between which numbers the ratios lie.
+fn draw_title(picture: &mut Picture, figures: &[&Figure], direction: Direction, left: f64) {
     let name = match direction {
         Direction::Seal => "Seal",
         Direction::Open => "Open",
     };
-    let range = format!("{:.2} to {:.2}", least, most);
-    let words = format!("second program takes {} times ours", range);
+    let [rival, second] = [Side::Rival, Side::Second].map(|side| range_of(figures, side));
+    let words = format!("times ours: rival {}, second {}", rival, second);
     picture.text((left, PANEL_TOP - 16.0), HEADING, name);
     picture.text((left + 60.0, PANEL_TOP - 16.0), WORDS, &words);
 }
@@ -81,20 +86,25 @@ fn draw_words(picture: &mut Picture, machine: &str) {
 }
 
 /// A short line, and behind it what lines of its look show.
-fn draw_sample(picture: &mut Picture, left: f64, looks: &str, words: &str) {
-    let y = 86.0;
+fn draw_sample(picture: &mut Picture, (left, y): Place, looks: &str, words: &str) {
     picture.line((left, y), (left + 30.0, y), looks);
     picture.text((left + 38.0, y + 4.5), WORDS, words);
 }
 
+/// Colours are schemes, dashes are sides.
 fn draw_legend(picture: &mut Picture) {
     for (left, number) in [(24.0, 1), (244.0, 2), (472.0, 3)] {
         let looks = look_of(number).line(Side::Ours);
-        draw_sample(picture, left, &looks, &name_of(number));
+        draw_sample(picture, (left, 82.0), &looks, &name_of(number));
     }
-    draw_sample(picture, 706.0, SAMPLE, "ours");
-    let dashed = format!("{} {}", SAMPLE, DASHES);
-    draw_sample(picture, 800.0, &dashed, "second program");
+    for (left, side) in [
+        (24.0, Side::Ours),
+        (244.0, Side::Rival),
+        (472.0, Side::Second),
+    ] {
+        let looks = format!("{} {}", SAMPLE, dashes_of(side));
+        draw_sample(picture, (left, 104.0), &looks, side_name(side));
+    }
 }
 
 /// The plot as SVG; `machine` says what it was measured on.

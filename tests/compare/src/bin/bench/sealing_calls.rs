@@ -1,5 +1,6 @@
 //! How long sealing and opening take, under one header.
 
+use crate::rival;
 use crate::side::{quickest, Side, Times};
 use compare::auraski::{self, opaque};
 use compare::schemes::{Scheme, SCHEMES};
@@ -12,7 +13,7 @@ pub const HEADER: [u8; 16] = *b"header of a body";
 /// The shortest body that is not empty.
 pub const SHORTEST: usize = 16;
 
-#[derive(Clone, Copy, PartialEq)]
+#[derive(Clone, Copy, PartialEq, Debug)]
 pub enum Direction {
     Seal,
     Open,
@@ -34,7 +35,7 @@ impl Direction {
 }
 
 /// One kind of call.
-#[derive(Clone, Copy)]
+#[derive(Clone, Copy, Debug)]
 pub struct Kind {
     pub direction: Direction,
     pub number: u32,
@@ -56,8 +57,19 @@ pub struct Figure {
     pub times: Times,
 }
 
-/// Seal or open, of either side.
-type Call = fn(u32, &[u8], &[u8], &[u8], &[u8], &mut [u8]) -> Answer;
+/// Seal or open, of any side.
+pub type Call = fn(u32, &[u8], &[u8], &[u8], &[u8], &mut [u8]) -> Answer;
+
+pub fn call_of(side: Side, direction: Direction) -> Call {
+    match (side, direction) {
+        (Side::Ours, Direction::Seal) => auraski::seal,
+        (Side::Ours, Direction::Open) => auraski::open,
+        (Side::Rival, Direction::Seal) => rival::seal,
+        (Side::Rival, Direction::Open) => rival::open,
+        (Side::Second, Direction::Seal) => sealing::seal,
+        (Side::Second, Direction::Open) => sealing::open,
+    }
+}
 
 /// What the calls of one kind work on: a body, or its sealed run.
 pub struct Work {
@@ -100,12 +112,7 @@ impl Work {
     /// none was refused. What is called is hidden, so that no call can be left
     /// out, moved or worked out beforehand.
     pub fn run(&mut self, side: Side, count: u32) -> u32 {
-        let call: Call = match (side, self.kind.direction) {
-            (Side::Ours, Direction::Seal) => auraski::seal,
-            (Side::Ours, Direction::Open) => auraski::open,
-            (Side::Second, Direction::Seal) => sealing::seal,
-            (Side::Second, Direction::Open) => sealing::open,
-        };
+        let call = call_of(side, self.kind.direction);
         (0..count).map(|_| self.call(opaque(call))).sum()
     }
 }
@@ -115,10 +122,18 @@ fn calls_for(body: usize) -> u32 {
     (4096 / body.max(1)).clamp(1, 100) as u32
 }
 
-/// Times one kind of call.
+/// Times one kind of call, of which all sides leave the same room.
 pub fn measure(kind: Kind) -> Figure {
     let calls = calls_for(kind.body);
     let mut work = Work::new(kind);
+    let rooms = Side::ALL.map(|side| {
+        work.room.fill(0);
+        (work.run(side, 1), work.room.clone())
+    });
+    assert!(
+        rooms.iter().all(|room| *room == rooms[0]),
+        "the sides do not agree: {kind:?}"
+    );
     let times = quickest(calls, |side| work.run(side, calls));
     Figure { kind, calls, times }
 }

@@ -1,4 +1,4 @@
-//! The two sides, and how batches of calls are timed.
+//! The three sides, and how batches of calls are timed.
 
 use std::time::{Duration, Instant};
 
@@ -8,19 +8,27 @@ const MOST_BATCHES: usize = 500;
 /// No kind of call is timed for longer, however many batches are left.
 const ENOUGH: Duration = Duration::from_secs(1);
 
-#[derive(Clone, Copy, PartialEq)]
+/// The library, the rival in C (tests/rival) and the second program.
+#[derive(Clone, Copy, PartialEq, Debug)]
 pub enum Side {
     Ours,
+    Rival,
     Second,
 }
 
 impl Side {
-    pub fn find(word: &str) -> Option<Side> {
-        match word {
-            "ours" => Some(Side::Ours),
-            "second" => Some(Side::Second),
-            _ => None,
+    pub const ALL: [Side; 3] = [Side::Ours, Side::Rival, Side::Second];
+
+    pub fn word(self) -> &'static str {
+        match self {
+            Side::Ours => "ours",
+            Side::Rival => "rival",
+            Side::Second => "second",
         }
+    }
+
+    pub fn find(word: &str) -> Option<Side> {
+        Side::ALL.into_iter().find(|side| side.word() == word)
     }
 }
 
@@ -28,15 +36,18 @@ impl Side {
 /// batches of each side there were.
 #[derive(Clone, Copy)]
 pub struct Times {
-    pub ours: f64,
-    pub second: f64,
+    quickest: [f64; 3],
     pub batches: usize,
 }
 
 impl Times {
+    pub fn of(&self, side: Side) -> f64 {
+        self.quickest[side as usize]
+    }
+
     /// Above 1 where ours is quicker.
-    pub fn ratio(&self) -> f64 {
-        self.second / self.ours
+    pub fn ratio(&self, side: Side) -> f64 {
+        self.of(side) / self.of(Side::Ours)
     }
 }
 
@@ -49,17 +60,19 @@ fn time(calls: u32, run: impl FnOnce() -> u32) -> f64 {
     spent / f64::from(calls)
 }
 
-/// Times batches of so many calls, the two sides taking turns.
+/// Times batches of so many calls, the sides taking turns.
 pub fn quickest(calls: u32, mut run: impl FnMut(Side) -> u32) -> Times {
     let mut times = Times {
-        ours: f64::MAX,
-        second: f64::MAX,
+        quickest: [f64::MAX; 3],
         batches: 0,
     };
     let start = Instant::now();
     while times.batches < MOST_BATCHES && start.elapsed() < ENOUGH {
-        times.ours = times.ours.min(time(calls, || run(Side::Ours)));
-        times.second = times.second.min(time(calls, || run(Side::Second)));
+        for side in Side::ALL {
+            let spent = time(calls, || run(side));
+            let least = &mut times.quickest[side as usize];
+            *least = least.min(spent);
+        }
         times.batches += 1;
     }
     times

@@ -1,43 +1,47 @@
 //! The tables of what was measured, each line printed when it is.
 
 use crate::block_calls;
-use crate::sealing_calls::{self, Figure, Kind, HEADER};
+use crate::sealing_calls::{self, Figure, HEADER};
+use crate::side::{Side, Times};
 
 /// Bodies of the table of sealing and opening, beside the longest.
 const BODIES: [usize; 4] = [0, 16, 32, 1024];
 
-const MEANING: &str = "Second/ours above 1 means that ours is quicker.";
+const MEANING: &str = "Rival/ours above 1 means that ours is quicker.";
+
+/// The last columns of both tables.
+const SIDES: &str = "     ours |     rival |    second | rival/ours | second/ours |";
+const RULES: &str = "---------:|----------:|----------:|-----------:|------------:|";
+
+fn sides(times: &Times) -> String {
+    let [ours, rival, second] = Side::ALL.map(|side| times.of(side));
+    let [rival_ratio, second_ratio] = [Side::Rival, Side::Second].map(|side| times.ratio(side));
+    format!("{ours:9.0} | {rival:9.0} | {second:9.0} | {rival_ratio:10.2} | {second_ratio:11.2} |")
+}
 
 pub fn print_block_calls() {
     let calls = block_calls::CALLS;
     println!("Block calls: nanoseconds per call, in the quickest of so many batches of {calls}");
-    println!("calls, the two sides taking turns. {MEANING}");
+    println!("calls, the sides taking turns. {MEANING}");
     println!();
-    println!("| cipher  | call                    | batches |     ours |   second | second/ours |");
-    println!("|:--------|:------------------------|--------:|---------:|---------:|------------:|");
+    println!("| cipher  | call                    | batches | {SIDES}");
+    println!("|:--------|:------------------------|--------:|-{RULES}");
     for kind in block_calls::kinds() {
         let times = block_calls::measure(kind);
-        println!(
-            "| {:7} | {:23} | {:7} | {:8.0} | {:8.0} | {:11.2} |",
-            kind.cipher_name(),
-            kind.name(),
-            times.batches,
-            times.ours,
-            times.second,
-            times.ratio()
-        );
+        let (cipher, name, batches) = (kind.cipher_name(), kind.name(), times.batches);
+        println!("| {cipher:7} | {name:23} | {batches:7} | {}", sides(&times));
     }
 }
 
 /// Measures more bodies than are printed, and gives all figures.
 pub fn print_sealing() -> Vec<Figure> {
     let header = HEADER.len();
-    println!("Seal and open: nanoseconds per call and per byte of body (/B) under a header of");
-    println!("{header} bytes, in the quickest of so many batches of so many calls, the two sides");
+    println!("Seal and open: nanoseconds per call, and ours per byte of body, under a header");
+    println!("of {header} bytes, in the quickest of so many batches of so many calls, the sides");
     println!("taking turns. {MEANING}");
     println!();
-    println!("| scheme | call |   body | batches | calls |      ours |    second |  ours/B | second/B | second/ours |");
-    println!("|-------:|:-----|-------:|--------:|------:|----------:|----------:|--------:|---------:|------------:|");
+    println!("| scheme | call |   body | batches | calls | ours/byte | {SIDES}");
+    println!("|-------:|:-----|-------:|--------:|------:|----------:|-{RULES}");
     sealing_calls::kinds()
         .into_iter()
         .map(sealing_calls::measure)
@@ -50,26 +54,14 @@ fn print_figure(figure: &Figure) {
     if !BODIES.contains(&kind.body) && !kind.is_longest() {
         return;
     }
+    let (number, direction) = (kind.number, kind.direction.name());
+    let (body, batches) = (kind.body, times.batches);
+    let byte = match body {
+        0 => "-".to_string(),
+        _ => format!("{:.2}", times.of(Side::Ours) / body as f64),
+    };
     println!(
-        "| {:6} | {:4} | {:6} | {:7} | {:5} | {:9.0} | {:9.0} | {:>7} | {:>8} | {:11.2} |",
-        kind.number,
-        kind.direction.name(),
-        kind.body,
-        times.batches,
-        calls,
-        times.ours,
-        times.second,
-        per_byte(times.ours, kind),
-        per_byte(times.second, kind),
-        times.ratio()
+        "| {number:6} | {direction:4} | {body:6} | {batches:7} | {calls:5} | {byte:>9} | {}",
+        sides(times)
     );
-}
-
-/// Per byte of body, where there is a body.
-fn per_byte(nanoseconds: f64, kind: &Kind) -> String {
-    if kind.body == 0 {
-        "-".to_string()
-    } else {
-        format!("{:.2}", nanoseconds / kind.body as f64)
-    }
 }
