@@ -5,50 +5,32 @@ use crate::sealing_calls::{Direction, Figure};
 use crate::side::Side;
 use compare::schemes::{Mode, Scheme};
 
-/// What makes a line the rival's or the second program's.
-pub fn dashes_of(side: Side) -> &'static str {
+/// How the lines of a scheme look, in any side's colour. The curves of schemes
+/// 2 and 3 nearly meet, so that one is wide and pale, and the other drawn on it.
+const LOOKS: [&str; 3] = [
+    "stroke-width=\"2.2\" stroke-dasharray=\"7 4\"",
+    "stroke-width=\"8\" stroke-opacity=\"0.3\"",
+    "stroke-width=\"1.8\"",
+];
+
+pub fn colour_of(side: Side) -> &'static str {
     match side {
-        Side::Ours => "",
-        Side::Rival => "stroke-dasharray=\"7 5\"",
-        Side::Second => "stroke-dasharray=\"1.5 4\"",
+        Side::Ours => "#0369a1",
+        Side::Rival => "#c2410c",
+        Side::Second => "#6b7280",
     }
 }
 
-/// How a scheme's curves look. The curves of schemes 2 and 3 nearly meet, so
-/// that one is wide and pale, and the other drawn on it.
-pub struct Look {
-    pub colour: &'static str,
-    pub width: f64,
-    pub strength: f64,
+/// Attributes of a line.
+pub fn line_of(number: u32, colour: &str) -> String {
+    format!("stroke=\"{}\" {}", colour, LOOKS[number as usize - 1])
 }
-
-const LOOKS: [Look; 3] = [
-    Look {
-        colour: "#c2410c",
-        width: 2.2,
-        strength: 1.0,
-    },
-    Look {
-        colour: "#0369a1",
-        width: 8.0,
-        strength: 0.35,
-    },
-    Look {
-        colour: "#111827",
-        width: 1.8,
-        strength: 1.0,
-    },
-];
 
 /// Nanoseconds per byte by the body's length, of one scheme and side.
 pub struct Curve {
     pub number: u32,
     pub side: Side,
     pub points: Vec<(usize, f64)>,
-}
-
-pub fn look_of(number: u32) -> &'static Look {
-    &LOOKS[number as usize - 1]
 }
 
 pub fn name_of(number: u32) -> String {
@@ -65,19 +47,6 @@ pub fn side_name(side: Side) -> &'static str {
         Side::Ours => "ours",
         Side::Rival => "rival",
         Side::Second => "second program",
-    }
-}
-
-impl Look {
-    /// Attributes of a line of this look.
-    pub fn line(&self, side: Side) -> String {
-        format!(
-            "stroke=\"{}\" stroke-width=\"{}\" stroke-opacity=\"{}\" {}",
-            self.colour,
-            self.width,
-            self.strength,
-            dashes_of(side)
-        )
     }
 }
 

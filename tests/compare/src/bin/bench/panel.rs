@@ -1,6 +1,6 @@
 //! One panel of the plot: its axes, its curves and where they end.
 
-use crate::curves::{look_of, Curve};
+use crate::curves::{colour_of, line_of, Curve};
 use crate::scale::{length_name, time_name, Scale};
 use crate::svg::Picture;
 
@@ -56,33 +56,30 @@ pub fn draw_axes(picture: &mut Picture, scale: &Scale) {
 }
 
 pub fn draw_curve(picture: &mut Picture, scale: &Scale, curve: &Curve) {
-    let look = look_of(curve.number);
+    let colour = colour_of(curve.side);
     let places: Vec<_> = curve
         .points
         .iter()
         .map(|(length, time)| scale.place(*length, *time))
         .collect();
-    picture.curve(&places, &look.line(curve.side));
+    picture.curve(&places, &line_of(curve.number, colour));
     for (place, point) in places.into_iter().zip(&curve.points) {
-        let looks = format!("r=\"3\" fill=\"{}\"", look.colour);
+        let looks = format!("r=\"2.6\" fill=\"{}\"", colour);
         picture.dot(place, &looks, &curve.words(*point));
     }
 }
 
 /// The time at each curve's end, in figures, kept apart from one another.
 pub fn draw_ends(picture: &mut Picture, scale: &Scale, curves: &[Curve]) {
-    let mut ends: Vec<(f64, u32)> = curves
+    let mut ends: Vec<(f64, &str)> = curves
         .iter()
-        .filter_map(|curve| Some((curve.points.last()?.1, curve.number)))
+        .filter_map(|curve| Some((curve.points.last()?.1, colour_of(curve.side))))
         .collect();
     ends.sort_by(|one, other| other.0.total_cmp(&one.0));
     let mut above = f64::MIN;
-    for (time, number) in ends {
+    for (time, colour) in ends {
         let y = (scale.y(time) + 4.0).max(above + APART);
-        let looks = format!(
-            "font-size=\"12\" font-weight=\"bold\" fill=\"{}\"",
-            look_of(number).colour
-        );
+        let looks = format!("font-size=\"12\" font-weight=\"bold\" fill=\"{}\"", colour);
         picture.text((scale.right + 9.0, y), &looks, &time_name(time));
         above = y;
     }

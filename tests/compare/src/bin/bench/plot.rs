@@ -1,7 +1,7 @@
 //! The plot of nanoseconds per byte by the body's length: a panel for sealing
 //! and one for opening.
 
-use crate::curves::{curves_of, dashes_of, look_of, name_of, of_direction, side_name};
+use crate::curves::{colour_of, curves_of, line_of, name_of, of_direction, side_name};
 use crate::panel::{draw_axes, draw_curve, draw_ends};
 use crate::scale::{top_for, Scale};
 use crate::sealing_calls::{Direction, Figure, HEADER, SHORTEST};
@@ -21,7 +21,6 @@ const TITLE: &str = "font-size=\"20\" font-weight=\"bold\" fill=\"#111827\"";
 const HEADING: &str = "font-size=\"16\" font-weight=\"bold\" fill=\"#111827\"";
 const WORDS: &str = "font-size=\"13\" fill=\"#111827\"";
 const NOTE: &str = "font-size=\"13\" fill=\"#4b5563\"";
-const SAMPLE: &str = "stroke=\"#374151\" stroke-width=\"2\"";
 
 /// The scale of both panels, here of the one that begins at `left`.
 fn scale_for(figures: &[Figure], left: f64) -> Scale {
@@ -91,19 +90,16 @@ fn draw_sample(picture: &mut Picture, (left, y): Place, looks: &str, words: &str
     picture.text((left + 38.0, y + 4.5), WORDS, words);
 }
 
-/// Colours are schemes, dashes are sides.
+/// Colours are sides, and the lines' looks are schemes.
 fn draw_legend(picture: &mut Picture) {
-    for (left, number) in [(24.0, 1), (244.0, 2), (472.0, 3)] {
-        let looks = look_of(number).line(Side::Ours);
-        draw_sample(picture, (left, 82.0), &looks, &name_of(number));
+    let lefts = [24.0, 244.0, 472.0];
+    for (left, side) in lefts.into_iter().zip(Side::ALL) {
+        let looks = format!("stroke=\"{}\" stroke-width=\"6\"", colour_of(side));
+        draw_sample(picture, (left, 82.0), &looks, side_name(side));
     }
-    for (left, side) in [
-        (24.0, Side::Ours),
-        (244.0, Side::Rival),
-        (472.0, Side::Second),
-    ] {
-        let looks = format!("{} {}", SAMPLE, dashes_of(side));
-        draw_sample(picture, (left, 104.0), &looks, side_name(side));
+    for (left, number) in lefts.into_iter().zip(1..) {
+        let looks = line_of(number, "#374151");
+        draw_sample(picture, (left, 104.0), &looks, &name_of(number));
     }
 }
 
