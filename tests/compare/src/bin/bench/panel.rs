@@ -69,6 +69,23 @@ pub fn draw_curve(picture: &mut Picture, scale: &Scale, curve: &Curve) {
     }
 }
 
+/// Where the numbers at the curves' ends stand: each beside its end, or below
+/// the one above it, and none below the panel.
+fn apart(ends: &[f64], bottom: f64) -> Vec<f64> {
+    let mut places = Vec::new();
+    let mut above = f64::MIN;
+    for end in ends {
+        above = end.max(above + APART);
+        places.push(above);
+    }
+    let mut below = bottom + APART;
+    for place in places.iter_mut().rev() {
+        below = place.min(below - APART);
+        *place = below;
+    }
+    places
+}
+
 /// The time at each curve's end, in figures, kept apart from one another.
 pub fn draw_ends(picture: &mut Picture, scale: &Scale, curves: &[Curve]) {
     let mut ends: Vec<(f64, &str)> = curves
@@ -76,11 +93,9 @@ pub fn draw_ends(picture: &mut Picture, scale: &Scale, curves: &[Curve]) {
         .filter_map(|curve| Some((curve.points.last()?.1, colour_of(curve.side))))
         .collect();
     ends.sort_by(|one, other| other.0.total_cmp(&one.0));
-    let mut above = f64::MIN;
-    for (time, colour) in ends {
-        let y = (scale.y(time) + 4.0).max(above + APART);
+    let beside: Vec<f64> = ends.iter().map(|end| scale.y(end.0) + 4.0).collect();
+    for ((time, colour), y) in ends.into_iter().zip(apart(&beside, scale.bottom)) {
         let looks = format!("font-size=\"12\" font-weight=\"bold\" fill=\"{}\"", colour);
         picture.text((scale.right + 9.0, y), &looks, &time_name(time));
-        above = y;
     }
 }
