@@ -35,7 +35,7 @@ uint32_t rival_unfork(uint32_t cipher, const uint8_t key[16], const uint8_t twea
 
 /* ---- the modes ---- */
 
-/* What stays the same through a call; `sum` is PAEF's S or SAEF's Delta. */
+/* What a call was given, and what it carries from block to block; `sum` is PAEF's S or SAEF's Delta. */
 typedef struct {
     const Cipher *cipher;
     size_t n;
