@@ -28,6 +28,11 @@
 #define AURASKI_VERSION_MINOR 2
 #define AURASKI_VERSION_PATCH 0
 
+/* A call takes at most so many bytes of stack, its arguments included, whatever the record's length. This is measured, not proved, with the
+ * names of the C library bound before the call (-static or -Wl,-z,now): where the loader binds them at the first call, its own stack comes
+ * on top. */
+#define AURASKI_STACK_BYTES 3072u
+
 /* GCC and clang warn of an answer that is not looked at, and of a null pointer where they see that it is one; where they don't, they go by
  * it that it is none. */
 #if defined(__GNUC__) && __GNUC__ >= 4

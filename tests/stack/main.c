@@ -7,12 +7,8 @@
 #include <stdlib.h>
 #include <string.h>
 
-/* The stack that a caller has to have, arguments included; include/auraski.h and docs/SPEED.md name the same number. */
-#ifdef AURASKI_STACK_BYTES
+/* The stack that a caller has to have, arguments included. */
 enum { BOUND = AURASKI_STACK_BYTES };
-#else
-enum { BOUND = 3072 };
-#endif
 
 enum { MOST = 131056, BLOCK = 16 };
 

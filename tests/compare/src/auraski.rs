@@ -1,4 +1,4 @@
-//! The library through its C entry points: the only `unsafe` of this package.
+//! The library through its C entry points. This and the benchmark's rival are the only `unsafe` of this package.
 
 use crate::sealing::Answer;
 
