@@ -8,8 +8,8 @@ use lib.Dec.{ltb}
 use lib.ListN.{length, take, drop, replicate}
 use lib.Seq.{take-all, drop-at}
 use Rattle.ciphers.specs.Ciphers.{blockOf}
-use Rattle.modes.specs.Mode.{Opened, sealRun, openRun}
-use Rattle.steps.specs.Modes.{modeOf}
+use Rattle.modes.specs.Mode.{Opened}
+use Rattle.walks.specs.Walks.{RecordSealed, RecordOpened}
 use Rattle.sealing.specs.declared.schemes.Scheme.{Scheme}
 use Rattle.sealing.specs.Checks.{checkOf}
 use Rattle.sealing.specs.Calls.{Told, refused, done, forged, judged, passed, sealed, opened, sealUnder, openUnder}
@@ -40,15 +40,14 @@ module _ (s : Scheme) (key nonce header : List ℕ) (N : ℕ) (size : N ≡ bloc
     unfolding sealUnder
     seal-refuses h = told-refused number _ _ room seal-check h
 
-    pub seal-does : number ≡ 0 → (K new : List ℕ) → K ≡ key
-        → new ≡ sealRun n (modeOf (s .kind) (s .cipher) K nonce) header body ++ drop (length body + n) room
+    pub seal-does : number ≡ 0 → (K new : List ℕ) → K ≡ key → RecordSealed (s .cipher) (s .kind) K nonce header body room new
         → record { number = 0; length = length body + N; room = new } ≡ sealUnder s key nonce header body room
     unfolding sealUnder
     seal-does z K new k put =
         (λ i. record {
           number = 0;
           length = length body + size i;
-          room = (put ∙ ap (λ (x : List ℕ). sealRun n (modeOf (s .kind) (s .cipher) x nonce) header body ++ drop (length body + n) room) k) i;
+          room = (put .said ∙ ap (λ (x : List ℕ). sealed s x nonce header body ++ drop (length body + n) room) k) i;
         })
         ∙ told-passed number _ (done (length body + n) (sealed s key nonce header body) room) room seal-check z
 
@@ -72,10 +71,9 @@ module _ (s : Scheme) (key nonce header : List ℕ) (N : ℕ) (size : N ≡ bloc
     open-refuses h = told-refused number _ _ room open-check h
 
     module _ (z : number ≡ 0) (K : List ℕ) (k : K ≡ key) (r : Bool) (mid : List ℕ)
-        (said : r ≡ openRun n (modeOf (s .kind) (s .cipher) K nonce) header run .authentic)
-        (put : mid ≡ openRun n (modeOf (s .kind) (s .cipher) K nonce) header run .body ++ drop l room) where
-      opens : openRun n (modeOf (s .kind) (s .cipher) K nonce) header run ≡ opened s key nonce header run
-      opens = ap (λ (x : List ℕ). openRun n (modeOf (s .kind) (s .cipher) x nonce) header run) k
+        (a : RecordOpened (s .cipher) (s .kind) K nonce header run room r mid) where
+      opens : opened s K nonce header run ≡ opened s key nonce header run
+      opens = ap (λ (x : List ℕ). opened s x nonce header run) k
 
       -- the answer by r
       by : (b : Bool) (t : Told) → r ≡ b
@@ -84,20 +82,20 @@ module _ (s : Scheme) (key nonce header : List ℕ) (N : ℕ) (size : N ≡ bloc
       by b t q f =
           f
           ∙ ap (λ (b : Bool). cond b (done l (opened s key nonce header run .body) room) (forged l room))
-          (sym q ∙ said ∙ ap (λ (o : Opened). o .authentic) opens)
+          (sym q ∙ a .authentic-is ∙ ap (λ (o : Opened). o .authentic) opens)
           ∙ told-passed number _ (judged (opened s key nonce header run) l room) room open-check z
 
       pub open-does : r ≡ true → record { number = 0; length = L; room = mid } ≡ openUnder s key nonce header run room
       open-does q =
           by true _ q
-          (λ i. record { number = 0; length = len-is i; room = (put ∙ ap (λ (o : Opened). o .body ++ drop l room) opens) i })
+          (λ i. record { number = 0; length = len-is i; room = (a .put .said ∙ ap (λ (o : Opened). o .body ++ drop l room) opens) i })
 
       -- the room was cleared: behind the body's place nothing had changed
-      pub open-forges : r ≡ false → (new : List ℕ) → length (openRun n (modeOf (s .kind) (s .cipher) K nonce) header run .body) ≡ l
-          → new ≡ replicate L 0 ++ drop L mid → record { number = 6; length = 0; room = new } ≡ openUnder s key nonce header run room
-      open-forges q new long put6 =
+      pub open-forges : r ≡ false → (new : List ℕ) → new ≡ replicate L 0 ++ drop L mid
+          → record { number = 6; length = 0; room = new } ≡ openUnder s key nonce header run room
+      open-forges q new put6 =
           by false _ q
           (ap (λ (x : List ℕ). record { number = 6; length = 0; room = x })
           (put6
           ∙ ap (λ (m : ℕ). replicate m 0 ++ drop m mid) len-is
-          ∙ ap (λ (x : List ℕ). replicate l 0 ++ x) (ap (drop l) put ∙ drop-at (openRun n (modeOf (s .kind) (s .cipher) K nonce) header run .body) (drop l room) l long)))
+          ∙ ap (λ (x : List ℕ). replicate l 0 ++ x) (ap (drop l) (a .put .said) ∙ drop-at (opened s K nonce header run .body) (drop l room) l (a .put .long))))

@@ -1,3 +1,4 @@
+mod Answered
 mod FromHeader
 mod Going
 mod Opened

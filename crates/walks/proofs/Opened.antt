@@ -3,7 +3,7 @@
 --     ended                   the last block, and the bytes behind it
 --     OpenGoing               the loop's invariant: how it begins, what a turn and the end require, and what they do to it
 -- Assumes nothing.
-use mathlib.Core.Path.{_≡_, refl, sym, ap, ap₂, _∙_, subst, subst⁻¹}
+use mathlib.Core.Path.{_≡_, refl, sym, ap, ap₂, _∙_, subst⁻¹}
 use mathlib.Core.Bool.{Bool, true, false, _&&_}
 use mathlib.Core.List.{List, _∷_, _++_}
 use Prim.Native.Nat.{ℕ, zero, suc, _+_, _-_, _≤_, _<_}
@@ -22,10 +22,11 @@ use Rattle.steps.specs.declared.State.{State}
 use Rattle.steps.specs.Modes.{Carried, modeOf, stateOf}
 use Rattle.steps.specs.Steps.{Paired}
 use Rattle.blocks.proofs.Parts.{part-rest}
+use Rattle.walks.specs.Walks.{Ready, Walkable, Openable, OpenTurned, OpenEnded, RunOpened}
+use Rattle.walks.proofs.Answered.{put-as, opened-as}
 use Rattle.walks.proofs.Going.{Going, going-none, going-more}
-use Rattle.walks.proofs.Places.{block-first, part-long}
-use Rattle.walks.proofs.Turned.{Turned}
-use Rattle.walks.proofs.Writing.{writing-end, writing-reach}
+use Rattle.walks.proofs.Places.{block-first, ready-at, lent, after, lent-long}
+use Rattle.walks.proofs.Writing.{writing-end}
 
 -- ---- the test
 
@@ -82,7 +83,7 @@ module _ {St : Type 0} (n : ℕ) (M : Mode St) (st : St) (part first second : Li
       rw (take-take r n first h, take-take r n second h, b, t)
 
 -- the front of a part, opened into a rest; m is the n of the code
-module _ (k : Kind) (c : Cipher) (key nonce : List ℕ) (s : State) (part rest₀ : List ℕ) where
+module _ (c : Cipher) (k : Kind) (key nonce : List ℕ) (s : State) (part rest₀ : List ℕ) where
   abbrev n : ℕ
   n = blockOf c
 
@@ -92,22 +93,12 @@ module _ (k : Kind) (c : Cipher) (key nonce : List ℕ) (s : State) (part rest�
   abbrev st : Carried k
   st = stateOf k n s
 
-  abbrev opened : Opened
-  opened = openLast n M st part
-
-  -- what the end ensures
-  abbrev Ended : (is : Bool) (rest : List ℕ) → Type 0
-  Ended is rest =
-      (is ≡ opened .authentic)
-      × ((rest ≡ opened .body ++ drop (length part - n) rest₀) × (length (opened .body) ≡ length part - n))
-
-  -- that, from what its callees ensure
   abbrev Ends : (f : Bool) (x first second : List ℕ) (is : Bool) (rest : List ℕ) → ℕ → Type 0
   Ends f x first second is rest m =
       let r = length part - m in
       f ≡ full m r → take m x ≡ pad m part → Paired k n (M .unfin f) (M .untag f) s x first second → rest ≡ take r first ++ drop r rest₀
       → is ≡ (same (take r second) (take r (drop m part)) && same (take (m - r) (drop r first)) (take (m - r) (ten 15)))
-      → n ≤ length part → length part ≤ n + n → Ended is rest
+      → n ≤ length part → length part ≤ n + n → OpenEnded c k key nonce s part rest₀ is rest
 
   ended-at : (f : Bool) (x first second : List ℕ) (is : Bool) (rest : List ℕ) → Ends f x first second is rest n
   ended-at f x first second is rest ef ex p er ei h g =
@@ -118,12 +109,13 @@ module _ (k : Kind) (c : Cipher) (key nonce : List ℕ) (s : State) (part rest�
       (p .first-is ∙ ap₂ (λ (b : Bool) (y : List ℕ). M .unfin b st y) ef e)
       (p .second-is ∙ ap₂ (λ (b : Bool) (y : List ℕ). M .untag b st y) ef e)
       ∙ judge-is n M st part first second (omega arith) (block-most c) (p .first-long) in
-      let l : length (take r first) ≡ r = length-take-le r first (omega (arith, p .first-long, block-most c)) in (
-        ei
-            ∙ ap (λ (t : List ℕ). same (take r second) t && same (take (n - r) (drop r first)) (take (n - r) (ten 15))) (part-rest n part)
-            ∙ ap (λ (q : Opened). q .authentic) (sym o),
-        (er ∙ ap (λ (q : Opened). q .body ++ drop r rest₀) (sym o), ap (λ (q : Opened). length (q .body)) o ∙ l),
-      )
+      opened-as (sym o) refl
+      (record {
+        authentic-is =
+            ei
+            ∙ ap (λ (t : List ℕ). same (take r second) t && same (take (n - r) (drop r first)) (take (n - r) (ten 15))) (part-rest n part);
+        put = record { said = er; long = length-take-le r first (omega (arith, p .first-long, block-most c)) };
+      })
 
   pub ended : (m : ℕ) (f : Bool) (x first second : List ℕ) (is : Bool) (rest : List ℕ) → m ≡ n → Ends f x first second is rest m
   ended m f x first second is rest em = subst⁻¹ (Ends f x first second is rest) em (ended-at f x first second is rest)
@@ -131,19 +123,19 @@ module _ (k : Kind) (c : Cipher) (key nonce : List ℕ) (s : State) (part rest�
 -- ---- the loop
 
 -- what holds of what is laid down: in front of what the rest opens to, it is what the run opens to
-abbrev pub Opens : (k : Kind) (c : Cipher) (key nonce run : List ℕ) (start s : State) (at : ℕ) (done : List ℕ) → Type 0
-Opens k c key nonce run start s at done =
+abbrev pub Opens : (c : Cipher) (k : Kind) (key nonce run : List ℕ) (start s : State) (at : ℕ) (done : List ℕ) → Type 0
+Opens c k key nonce run start s at done =
     let n = blockOf c in
     let M = modeOf k c key nonce in
     Opening n M (stateOf k n s) run at done (openRest n M (stateOf k n start) run)
 
-module _ (k : Kind) (c : Cipher) (key nonce run : List ℕ) (start : State) (room₀ : List ℕ) where
+module _ (c : Cipher) (k : Kind) (key nonce run : List ℕ) (start : State) (room₀ : List ℕ) where
   abbrev pub OpenGoing : State → ℕ → List ℕ → Type 0
-  OpenGoing = Going (length run - blockOf c) (Opens k c key nonce run start) room₀
+  OpenGoing = Going (length run - blockOf c) (Opens c k key nonce run start) room₀
 
   pub opening-none : start .number ≤ 1 → blockOf c < length run → OpenGoing start 0 room₀
   opening-none e h =
-      going-none (length run - blockOf c) (Opens k c key nonce run start) room₀ start
+      going-none (length run - blockOf c) (Opens c k key nonce run start) room₀ start
       (open-begin (blockOf c) (modeOf k c key nonce) (block-some c) (stateOf k (blockOf c) start) run) (omega arith) e
 
   module _ {s : State} {at : ℕ} {room : List ℕ} (g : OpenGoing s at room) where
@@ -159,73 +151,59 @@ module _ (k : Kind) (c : Cipher) (key nonce run : List ℕ) (start : State) (roo
     abbrev all : Opened
     all = openRest size mode (stateOf k size start) run
 
-    -- what is lent, `&run[at..]` and `&mut room[at..]`; and the room, when the rest came back as ys
-    abbrev lent : List ℕ
-    lent = take (length run - at) (drop at run)
+    abbrev part : List ℕ
+    part = lent at run
 
     abbrev left : List ℕ
-    left = take (length room - at) (drop at room)
-
-    abbrev after : List ℕ → List ℕ
-    after ys = take at room ++ (ys ++ drop (length room - at) (drop at room))
+    left = lent at room
 
     more : (s′ : State) (ys : List ℕ) → at + size + size < length run → length run ≤ length room₀ + size
-        → Turned k c (mode .back) (mode .backNext) s lent left s′ ys → OpenGoing s′ (at + size) (after ys)
+        → OpenTurned c k key nonce s part left s′ ys → OpenGoing s′ (at + size) (after at room ys)
     more s′ ys h f t =
-        let x = take size (drop at run) in
-        let y = mode .back here (take size lent) in
-        let e : take size lent ≡ x = ap (take size) (part-rest at run) in
-        going-more g size s′ y ys (block-some c) (omega arith) (omega arith) (t .0 .1) (t .1 .1) (t .1 .0)
+        going-more g t (block-some c) (omega arith) (omega arith)
         (λ done o.
-        open-turn size mode (block-some c) here (stateOf k size s′) run at done all x y o h refl (ap (mode .back here) e)
-        (t .0 .0 ∙ ap (mode .backNext here) e))
+        open-turn size mode (block-some c) here (stateOf k size s′) run at done all (take size part) _ o h (ap (take size) (part-rest at run)) refl
+        (t .reached .state))
 
-    -- m is the n of the code, and there is room for what the run opens to
-    module _ (m : ℕ) (em : m ≡ size) (b : length run ≤ 4294967295) (f : length run ≤ length room₀ + size) where
+    -- m is the n of the code
+    module _ (m : ℕ) (em : m ≡ size) (w : Walkable c k nonce run) (may : Openable size run room₀) where
       -- what a turn requires, and what it does
       module _ (h : m < length run - m - at) where
-        pub turn-may : (s .number ≤ 4294967296) × (size ≤ length lent) × (size ≤ length left)
+        pub turn-may : Ready c k nonce s × (size ≤ length part) × (size ≤ length left)
         turn-may =
             let i = g .inside in
             let o = g .writing .wrote .long in
-            let p = part-long at run in
-            let q = part-long at room in
-            (omega (arith, g .number), omega arith, omega arith)
+            let p = lent-long at run in
+            let q = lent-long at room in
+            (ready-at w at (g .number) (omega arith), omega arith, omega arith)
 
-        pub opening-more : (s′ : State) (ys : List ℕ) → Turned k c (mode .back) (mode .backNext) s lent left s′ ys
-            → OpenGoing s′ (at + m) (after ys)
-        opening-more s′ ys t = subst⁻¹ (λ (j : ℕ). OpenGoing s′ (at + j) (after ys)) em (more s′ ys (omega (arith, h, em)) f t)
+        pub opening-more : (s′ : State) (ys : List ℕ) → OpenTurned c k key nonce s part left s′ ys → OpenGoing s′ (at + m) (after at room ys)
+        opening-more s′ ys t =
+            subst⁻¹ (λ (j : ℕ). OpenGoing s′ (at + j) (after at room ys)) em (more s′ ys (omega (arith, h, em)) (may .fits) t)
 
       -- what the end requires, and what it comes to
       module _ (h : length run - m - at ≤ m) where
-        pub end-may : (s .number ≤ 4294967296) × (size ≤ length lent) × (length lent ≤ size + size) × (length lent ≤ length left + size)
+        pub end-may : Ready c k nonce s × Openable size part left × (length part ≤ size + size)
         end-may =
             let i = g .inside in
             let o = g .writing .wrote .long in
-            let p = part-long at run in
-            let q = part-long at room in
-            (omega (arith, g .number), omega arith, omega arith, omega arith)
+            let p = lent-long at run in
+            let q = lent-long at room in
+            (ready-at w at (g .number) (omega arith), record { block = omega arith; fits = omega arith }, omega arith)
 
-        told : (done : List ℕ) → Opening size mode here run at done all → before done (openLast size mode here lent) ≡ all
-        told done o =
+        all-is : (done : List ℕ) → Opening size mode here run at done all → before done (openLast size mode here part) ≡ all
+        all-is done o =
             ap (λ (t : List ℕ). before done (openLast size mode here t)) (part-rest at run)
             ∙ open-end size mode (block-some c) here run at done all o (omega arith)
 
-        pub opening-end : (is : Bool) (ys : List ℕ) → Ended k c key nonce s lent left is ys
-            → (is ≡ all .authentic) × ((after ys ≡ all .body ++ drop (length run - size) room₀) × (length (all .body) ≡ length run - size))
+        pub opening-end : (is : Bool) (ys : List ℕ) → OpenEnded c k key nonce s part left is ys
+            → RunOpened c k key nonce start run room₀ is (after at room ys)
         opening-end is ys e =
             let i = g .inside in
-            let p = part-long at run in
-            let j = length lent - size in
-            let d : at + j ≡ length run - size = omega arith in
-            let body = openLast size mode here lent .body in (
-              e .0 ∙ ap (λ (o : Opened). o .authentic) (told (g .writing .done) (g .writing .holds)),
-              (
-                writing-end (g .writing) j body ys (e .1 .1) (omega arith) (e .1 .0) (all .body)
-                    (λ done o. ap (λ (p : Opened). p .body) (told done o))
-                    ∙ ap (λ (x : ℕ). all .body ++ drop x room₀) d,
-                writing-reach (g .writing) j body ys (e .1 .1) (omega arith) (e .1 .0) (all .body)
-                    (λ done o. ap (λ (p : Opened). p .body) (told done o))
-                    ∙ d,
-              ),
-            )
+            let p = lent-long at run in
+            record {
+              authentic-is = e .authentic-is ∙ ap (λ (o : Opened). o .authentic) (all-is (g .writing .done) (g .writing .holds));
+              put =
+                  put-as refl (omega arith)
+                  (writing-end (g .writing) (e .put) (omega arith) (all .body) (λ done o. ap (λ (p : Opened). p .body) (all-is done o)));
+            }

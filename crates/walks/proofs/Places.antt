@@ -1,8 +1,10 @@
--- Where the walks stand: the order of a run's end, how long a part is, and what is loaded from its front. Assumes nothing.
+-- Where the walks stand: the order of a run's end, what is lent and what is loaded from its front, and a step that may be taken.
+-- Assumes nothing.
 use mathlib.Core.Bool.{true}
 use mathlib.Core.Path.{_≡_, refl, ap, _∙_, subst}
-use mathlib.Core.List.{List}
-use Prim.Native.Nat.{ℕ, _-_, _≤_}
+use mathlib.Core.List.{List, _++_}
+use Prim.Native.Nat.{ℕ, _+_, _-_, _≤_}
+use native.Mathlib.Omega.{arith}
 use lib.ListN.{length, take, drop, length-drop}
 use Rattle.ciphers.specs.declared.Cipher.{Cipher}
 use Rattle.modes.specs.Blocks.{pad}
@@ -10,9 +12,11 @@ use Rattle.modes.specs.Paef.{paef}
 use Rattle.modes.specs.Saef.{saef}
 use Rattle.steps.specs.declared.Kind.{Kind}
 use Rattle.steps.specs.declared.Kind.the-variants.{Paef, Saef}
+use Rattle.steps.specs.declared.State.{State}
 use Rattle.steps.specs.Modes.{modeOf}
 use Rattle.modes.proofs.Bytes.{pad-long}
 use Rattle.blocks.proofs.Parts.{part-rest}
+use Rattle.walks.specs.Walks.{Ready, Walkable}
 
 -- in PAEF and SAEF the last block comes before the leading bytes of the second
 pub block-first : (k : Kind) (c : Cipher) (key nonce : List ℕ) → modeOf k c key nonce .blockFirst ≡ true
@@ -20,8 +24,21 @@ unfolding paef saef
 block-first Paef c key nonce = refl
 block-first Saef c key nonce = refl
 
-pub part-long : (at : ℕ) (l : List ℕ) → length (take (length l - at) (drop at l)) ≡ length l - at
-part-long at l = ap length (part-rest at l) ∙ length-drop at l
+-- a step at a place of what is walked
+pub ready-at : {c : Cipher} {k : Kind} {nonce walked : List ℕ} {s : State} → Walkable c k nonce walked → (at : ℕ) → s .number ≤ at + 1
+    → at ≤ length walked → Ready c k nonce s
+ready-at w at n h = record { fills = w .fills; number = omega arith }
+
+-- ---- `&l[at..]` or `&mut l[at..]`; and the whole of l, when that came back as ys
+
+abbrev pub lent : ℕ → List ℕ → List ℕ
+lent at l = take (length l - at) (drop at l)
+
+abbrev pub after : ℕ → List ℕ → List ℕ → List ℕ
+after at l ys = take at l ++ (ys ++ drop (length l - at) (drop at l))
+
+pub lent-long : (at : ℕ) (l : List ℕ) → length (lent at l) ≡ length l - at
+lent-long at l = ap length (part-rest at l) ∙ length-drop at l
 
 -- ---- what was loaded from the front of a part; N is the block's size as the code has it
 

@@ -18,9 +18,10 @@ use Rattle.steps.specs.declared.Kind.{Kind}
 use Rattle.steps.specs.declared.State.{State}
 use Rattle.steps.specs.Modes.{Carried, modeOf, stateOf}
 use Rattle.steps.specs.Steps.{Paired}
+use Rattle.walks.specs.Walks.{SealTurned, SealEnded, BodySealed}
+use Rattle.walks.proofs.Answered.{put-as}
 use Rattle.walks.proofs.Going.{Going, going-none, going-more}
-use Rattle.walks.proofs.Places.{block-first, part-long}
-use Rattle.walks.proofs.Turned.{Turned}
+use Rattle.walks.proofs.Places.{block-first, lent, after, lent-long}
 use Rattle.walks.proofs.Writing.{writing-end}
 
 module _ (c : Cipher) (k : Kind) (key nonce : List ℕ) where
@@ -35,7 +36,7 @@ module _ (c : Cipher) (k : Kind) (key nonce : List ℕ) where
       (size : N ≡ n) (e : f ≡ full n (length part)) (ld : take n x ≡ pad n part) (p : Paired k n (M .fin f) (M .tag f) s x first second)
       (short : length part ≤ n) (fits : length part + n ≤ length old)
       (put : mid ≡ take N first ++ drop N old)
-      (put2 : ys ≡ take (length part) second ++ drop (length part) (take (length mid - N) (drop N mid))) where
+      (put2 : ys ≡ take (length part) second ++ drop (length part) (lent N mid)) where
     abbrev st : Carried k
     st = stateOf k n s
 
@@ -60,22 +61,13 @@ module _ (c : Cipher) (k : Kind) (key nonce : List ℕ) where
     tag-long : length (take (length part) second) ≡ length part
     tag-long = length-take-le (length part) second (omega (arith, p .second-long, short, block-most c))
 
-    written : Wrote (take N first ++ take (length part) second) old (N + length part) (take N mid ++ (ys ++ drop (length mid - N) (drop N mid)))
+    written : Wrote (take N first ++ take (length part) second) old (N + length part) (after N mid ys)
     written =
         wrote-more {out = take N first} (wrote-first N block-long (omega (arith, size, fits)) put) (length part) (take (length part) second) ys tag-long
         (omega (arith, size, fits)) put2
 
-    pub end-is : take N mid ++ (ys ++ drop (length mid - N) (drop N mid)) ≡ sealLast n M st part ++ drop (length part + n) old
-    end-is = written .said ∙ (λ i. last-is i ++ drop (sum i) old)
-      where
-        sum : N + length part ≡ length part + n
-        sum = omega (arith, size)
-
-    pub end-long : length (sealLast n M st part) ≡ length part + n
-    end-long = sym (ap length last-is) ∙ written .reach ∙ omega (arith, size)
-
-    pub end-room : length (take N mid ++ (ys ++ drop (length mid - N) (drop N mid))) ≡ length old
-    end-room = written .long
+    pub seal-ended : SealEnded c k key nonce s part old (after N mid ys)
+    seal-ended = put-as last-is (omega (arith, size)) (record { said = written .said; long = written .reach })
 
   -- ---- the loop; N is n as the code has it
   module _ (body room₀ : List ℕ) (s₀ : State) where
@@ -92,41 +84,31 @@ module _ (c : Cipher) (k : Kind) (key nonce : List ℕ) where
     pub sealing-none : 0 < length body → s₀ .number ≤ 1 → SealGoing s₀ 0 room₀
     sealing-none = going-none (length body) Seals room₀ s₀ (seal-begin n M (block-some c) (stateOf k n s₀) body)
 
-    abbrev part : ℕ → List ℕ
-    part at = take (length body - at) (drop at body)
-
     module _ {s : State} {at : ℕ} {room : List ℕ} (g : SealGoing s at room) (N : ℕ) (size : N ≡ n) (fits : length body + n ≤ length room₀)
         (ys : List ℕ) where
       abbrev here : Carried k
       here = stateOf k n s
 
-      abbrev rest : List ℕ
-      rest = take (length room - at) (drop at room)
+      abbrev part : List ℕ
+      part = lent at body
 
-      -- the room, when the rest came back as ys
-      abbrev after : List ℕ
-      after = take at room ++ (ys ++ drop (length room - at) (drop at room))
-
-      pub sealing-more : (s′ : State) → N < length body - at → Turned k c (M .out) (M .next) s (part at) rest s′ ys
-          → SealGoing s′ (at + N) after
+      pub sealing-more : (s′ : State) → N < length body - at → SealTurned c k key nonce s part (lent at room) s′ ys
+          → SealGoing s′ (at + N) (after at room ys)
       sealing-more s′ h t =
           let lt : at + n < length body = omega (arith, size, h) in
-          let y = M .out here (take n (part at)) in
-          subst (λ (m : ℕ). SealGoing s′ (at + m) after) (sym size)
-          (going-more g n s′ y ys (block-some c) lt (omega (arith, fits)) (t .0 .1) (t .1 .1) (t .1 .0)
+          subst (λ (m : ℕ). SealGoing s′ (at + m) (after at room ys)) (sym size)
+          (going-more g t (block-some c) lt (omega (arith, fits))
           (λ done sealing.
-          seal-turn n M (block-some c) here (stateOf k n s′) body at done all (take n (part at)) y sealing lt
-          (ap (take n) (part-rest at body)) refl (t .0 .0)))
+          seal-turn n M (block-some c) here (stateOf k n s′) body at done all (take n part) _ sealing lt
+          (ap (take n) (part-rest at body)) refl (t .reached .state)))
 
       -- the last block was put into the rest
-      pub sealing-end : length body - at ≤ N
-          → (ys ≡ sealLast n M here (part at) ++ drop (length (part at) + n) rest) × (length (sealLast n M here (part at)) ≡ length (part at) + n)
-          → after ≡ all ++ drop (length body + n) room₀
+      pub sealing-end : length body - at ≤ N → SealEnded c k key nonce s part (lent at room) ys
+          → BodySealed c k key nonce s₀ body room₀ (after at room ys)
       sealing-end h e =
-          let m : length (part at) ≡ length body - at = part-long at body in
-          let sum : at + (length (part at) + n) ≡ length body + n = omega (arith, m, g .inside) in
-          writing-end (g .writing) (length (part at) + n) (sealLast n M here (part at)) ys (e .1) (omega (arith, sum, fits)) (e .0) all
+          let sum : at + (length part + n) ≡ length body + n = omega (arith, lent-long at body, g .inside) in
+          put-as refl sum
+          (writing-end (g .writing) e (omega (arith, sum, fits)) all
           (λ done sealing.
           ap (λ (t : List ℕ). done ++ sealLast n M here t) (part-rest at body)
-          ∙ seal-end n M (block-some c) here body at done all sealing (omega (arith, size, h)))
-          ∙ ap (λ (j : ℕ). all ++ drop j room₀) sum
+          ∙ seal-end n M (block-some c) here body at done all sealing (omega (arith, size, h))))

@@ -4,7 +4,7 @@ use mathlib.Core.Bool.{Bool}
 use mathlib.Core.List.{List}
 use Prim.Native.Nat.{ℕ, _+_, _-_, _≤_, _<_}
 use native.Mathlib.Omega.{arith}
-use lib.ListN.{length, take, drop}
+use lib.ListN.{length, take}
 use Rattle.ciphers.proofs.Laws.{block-some}
 use Rattle.ciphers.specs.declared.Cipher.{Cipher}
 use Rattle.ciphers.specs.Ciphers.{blockOf}
@@ -15,6 +15,9 @@ use Rattle.modes.proofs.Turn.{Walking, walk-begin, walk-turn, walk-end}
 use Rattle.steps.specs.declared.Kind.{Kind}
 use Rattle.steps.specs.declared.State.{State}
 use Rattle.steps.specs.Modes.{Carried, modeOf, stateOf}
+use Rattle.walks.specs.Walks.{HeadTurned, HeadEnded, HeadWalked}
+use Rattle.walks.proofs.Answered.{reached-as}
+use Rattle.walks.proofs.Places.{lent}
 
 module _ (c : Cipher) (k : Kind) (key nonce : List ℕ) (empty : Bool) (header : List ℕ) where
   abbrev n : ℕ
@@ -39,27 +42,23 @@ module _ (c : Cipher) (k : Kind) (key nonce : List ℕ) (empty : Bool) (header :
         subst (λ (t : Carried k). Walking n M empty t header 0 (walk n M empty (M .start) header)) (sym b) (walk-begin n M (block-some c) empty (M .start) header);
   }
 
-  abbrev part : ℕ → List ℕ
-  part at = take (length header - at) (drop at header)
-
   pub walked-more : {N : ℕ} {s : State} {at : ℕ} → Walked N s at → (s′ : State) → N < length header - at
-      → stateOf k n s′ ≡ M .head (stateOf k n s) (take n (part at)) → s′ .number ≤ s .number + 1 → Walked N s′ (at + N)
-  walked-more {N} {s} {at} w s′ h e q =
+      → HeadTurned c k key nonce s (lent at header) s′ → Walked N s′ (at + N)
+  walked-more {N} {s} {at} w s′ h r =
       let lt : at + n < length header = omega (arith, w .size, h) in
       subst (λ (m : ℕ). Walked N s′ (at + m)) (sym (w .size))
       (record {
         size = w .size;
         inside = omega (arith, lt);
-        number = omega (arith, w .number, q, block-some c);
+        number = omega (arith, w .number, r .number, block-some c);
         walking =
-            walk-turn n M (block-some c) empty (stateOf k n s) (stateOf k n s′) header at _ (take n (part at)) (w .walking) lt
-            (ap (take n) (part-rest at header)) e;
+            walk-turn n M (block-some c) empty (stateOf k n s) (stateOf k n s′) header at _ (take n (lent at header)) (w .walking) lt
+            (ap (take n) (part-rest at header)) (r .state);
       })
 
   pub walked-end : {N : ℕ} {s : State} {at : ℕ} → Walked N s at → (r : State) → length header - at ≤ N
-      → stateOf k n r ≡ M .headLast empty (full n (length (part at))) (stateOf k n s) (pad n (part at))
-      → stateOf k n r ≡ walk n M empty (M .start) header
-  walked-end {N} {s} {at} w r h e =
-      e
-      ∙ ap (λ (l : List ℕ). M .headLast empty (full n (length l)) (stateOf k n s) (pad n l)) (part-rest at header)
-      ∙ walk-end n M (block-some c) empty (stateOf k n s) header at _ (w .walking) (omega (arith, w .size, h))
+      → HeadEnded c k key nonce empty s (lent at header) r → HeadWalked c k key nonce empty header r
+  walked-end {N} {s} {at} w r h =
+      reached-as
+      (ap (λ (l : List ℕ). M .headLast empty (full n (length l)) (stateOf k n s) (pad n l)) (part-rest at header)
+      ∙ walk-end n M (block-some c) empty (stateOf k n s) header at _ (w .walking) (omega (arith, w .size, h)))

@@ -24,11 +24,10 @@ pub record Walkable (c : Cipher) (k : Kind) (nonce walked : List ℕ) : Type 0 w
   pub fills : length nonce + tailOf k ≡ blockOf c
   pub few : length walked ≤ 4294967295
 
--- of the end of a run of blocks of n bytes: a block, at most a block of bytes behind it, and room for what it opens to
-pub record RunEnd (n : ℕ) (part rest : List ℕ) : Type 0 where
-  pub block : n ≤ length part
-  pub short : length part ≤ n + n
-  pub room : length part ≤ length rest + n
+-- of a run of blocks of n bytes: a block at least, and room for what it opens to
+pub record Openable (n : ℕ) (run room : List ℕ) : Type 0 where
+  pub block : n ≤ length run
+  pub fits : length run ≤ length room + n
 
 -- ---- answered
 
@@ -44,7 +43,7 @@ pub record Put (out : List ℕ) (l : ℕ) (old new : List ℕ) : Type 0 where
 
 -- what a run opens to: whether it is authentic, and its l bytes at the front of a room
 pub record OpenedTo (o : Opened) (l : ℕ) (old : List ℕ) (authentic : Bool) (new : List ℕ) : Type 0 where
-  pub told : authentic ≡ o .authentic
+  pub authentic-is : authentic ≡ o .authentic
   pub put : Put (o .body) l old new
 
 -- a block that is not the last, worked from the front of a part into a rest: to f of it, and the state to g of it

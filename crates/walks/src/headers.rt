@@ -4,18 +4,15 @@ use blocks::load;
 use ciphers::Cipher;
 use steps::Kind;
 use steps::State;
-ghost use mathlib.Core.Path.{_≡_};
-ghost use Prim.Native.Nat.{_+_, _≤_};
-ghost use lib.ListN.{length, take};
+ghost use Prim.Native.Nat.{_≤_};
+ghost use lib.ListN.{length};
 ghost use Rattle.ciphers.specs.Ciphers.{blockOf};
-ghost use Rattle.modes.specs.Blocks.{full, pad};
-ghost use Rattle.modes.specs.Mode.{walk, headed};
-ghost use Rattle.steps.specs.Modes.{modeOf, tailOf, stateOf};
+ghost use Rattle.walks.specs.Walks.{Ready, Walkable, HeadTurned, HeadEnded, HeadWalked, Headed};
 
 // The block at the front of a part, not the last one.
 fn turn(c: Cipher, k: Kind, key: [u8; 16], nonce: &[u8], s: State, part: &[u8]) -> State
-    requires { ⌜ (length (now nonce) + tailOf k ≡ blockOf c) × (s .number ≤ 4294967296) × (blockOf c ≤ length (now part)) ⌝ }
-    ensures { λ r. ⌜ (stateOf k (blockOf c) r ≡ (modeOf k c key (now (nonce .entry))) .head (stateOf k (blockOf c) s) (take (blockOf c) (now (part .entry)))) × (r .number ≤ s .number + 1) ⌝ }
+    requires { ⌜ Ready c k (now nonce) s × (blockOf c ≤ length (now part)) ⌝ }
+    ensures { λ r. ⌜ HeadTurned c k key (now (nonce .entry)) s (now (part .entry)) r ⌝ }
 {
     let n = ciphers::block_of(c);
     steps::head(c, k, key, nonce, s, load(part, n))
@@ -23,8 +20,8 @@ fn turn(c: Cipher, k: Kind, key: [u8; 16], nonce: &[u8], s: State, part: &[u8]) 
 
 // The last one, short or full.
 fn end(c: Cipher, k: Kind, key: [u8; 16], nonce: &[u8], empty: bool, s: State, part: &[u8]) -> State
-    requires { ⌜ (length (now nonce) + tailOf k ≡ blockOf c) × (s .number ≤ 4294967296) ⌝ }
-    ensures { λ r. ⌜ (stateOf k (blockOf c) r ≡ (modeOf k c key (now (nonce .entry))) .headLast empty (full (blockOf c) (length (now (part .entry)))) (stateOf k (blockOf c) s) (pad (blockOf c) (now (part .entry)))) × (r .number ≤ 1) ⌝ }
+    requires { ⌜ Ready c k (now nonce) s ⌝ }
+    ensures { λ r. ⌜ HeadEnded c k key (now (nonce .entry)) empty s (now (part .entry)) r ⌝ }
 {
     let n = ciphers::block_of(c);
     let f = is_full(n, part.len());
@@ -32,8 +29,8 @@ fn end(c: Cipher, k: Kind, key: [u8; 16], nonce: &[u8], empty: bool, s: State, p
 }
 
 fn walk(c: Cipher, k: Kind, key: [u8; 16], nonce: &[u8], empty: bool, header: &[u8]) -> State
-    requires { ⌜ (length (now nonce) + tailOf k ≡ blockOf c) × (length (now header) ≤ 4294967295) ⌝ }
-    ensures { λ r. ⌜ (stateOf k (blockOf c) r ≡ walk (blockOf c) (modeOf k c key (now (nonce .entry))) empty ((modeOf k c key (now (nonce .entry))) .start) (now (header .entry))) × (r .number ≤ 1) ⌝ }
+    requires { ⌜ Walkable c k (now nonce) (now header) ⌝ }
+    ensures { λ r. ⌜ HeadWalked c k key (now (nonce .entry)) empty (now (header .entry)) r ⌝ }
 {
     let n = ciphers::block_of(c);
     let mut s = steps::start(c, k, key, nonce);
@@ -47,8 +44,8 @@ fn walk(c: Cipher, k: Kind, key: [u8; 16], nonce: &[u8], empty: bool, header: &[
 
 // What a header leaves; empty says that the body is. An empty header leaves nothing before a body.
 pub fn head(c: Cipher, k: Kind, key: [u8; 16], nonce: &[u8], empty: bool, header: &[u8]) -> State
-    requires { ⌜ (length (now nonce) + tailOf k ≡ blockOf c) × (length (now header) ≤ 4294967295) ⌝ }
-    ensures { λ r. ⌜ (stateOf k (blockOf c) r ≡ headed (blockOf c) (modeOf k c key (now (nonce .entry))) empty (now (header .entry))) × (r .number ≤ 1) ⌝ }
+    requires { ⌜ Walkable c k (now nonce) (now header) ⌝ }
+    ensures { λ r. ⌜ Headed c k key (now (nonce .entry)) empty (now (header .entry)) r ⌝ }
 {
     if empty {
         return walk(c, k, key, nonce, empty, header);

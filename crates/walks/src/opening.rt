@@ -9,13 +9,11 @@ use steps::Kind;
 use steps::State;
 ghost use mathlib.Core.Path.{_≡_};
 ghost use mathlib.Core.Bool.{_&&_};
-ghost use mathlib.Core.List.{_++_};
 ghost use Prim.Native.Nat.{_+_, _-_, _≤_, _<_};
 ghost use lib.ListN.{length, take, drop};
 ghost use Rattle.ciphers.specs.Ciphers.{blockOf};
 ghost use Rattle.modes.specs.Blocks.{same, ten};
-ghost use Rattle.modes.specs.Mode.{openLast, openRest};
-ghost use Rattle.steps.specs.Modes.{modeOf, tailOf, stateOf};
+ghost use Rattle.walks.specs.Walks.{Ready, Walkable, Openable, OpenTurned, OpenEnded, RunOpened};
 
 // The block at the front of a part, not the last one.
 fn turn(
@@ -27,9 +25,8 @@ fn turn(
     part: &[u8],
     rest: &mut [u8],
 ) -> State
-    requires { ⌜ (length (now nonce) + tailOf k ≡ blockOf c) × (s .number ≤ 4294967296) × (blockOf c ≤ length (now part)) × (blockOf c ≤ length (now rest)) ⌝ }
-    ensures { λ r. ⌜ (stateOf k (blockOf c) r ≡ (modeOf k c key (now (nonce .entry))) .backNext (stateOf k (blockOf c) s) (take (blockOf c) (now (part .entry)))) × (r .number ≤ s .number + 1) ⌝ }
-    ensures { λ _. ⌜ (now (rest .exit) ≡ (modeOf k c key (now (nonce .entry))) .back (stateOf k (blockOf c) s) (take (blockOf c) (now (part .entry))) ++ drop (blockOf c) (now (rest .entry))) × (length ((modeOf k c key (now (nonce .entry))) .back (stateOf k (blockOf c) s) (take (blockOf c) (now (part .entry)))) ≡ blockOf c) ⌝ }
+    requires { ⌜ Ready c k (now nonce) s × (blockOf c ≤ length (now part)) × (blockOf c ≤ length (now rest)) ⌝ }
+    ensures { λ r. ⌜ OpenTurned c k key (now (nonce .entry)) s (now (part .entry)) (now (rest .entry)) r (now (rest .exit)) ⌝ }
 {
     let n = ciphers::block_of(c);
     let t = steps::open_block(c, k, key, nonce, s, load(part, n));
@@ -63,9 +60,8 @@ fn end(
     part: &[u8],
     rest: &mut [u8],
 ) -> bool
-    requires { ⌜ (length (now nonce) + tailOf k ≡ blockOf c) × (s .number ≤ 4294967296) × (blockOf c ≤ length (now part)) × (length (now part) ≤ blockOf c + blockOf c) × (length (now part) ≤ length (now rest) + blockOf c) ⌝ }
-    ensures { λ r. ⌜ r ≡ (openLast (blockOf c) (modeOf k c key (now (nonce .entry))) (stateOf k (blockOf c) s) (now (part .entry))) .authentic ⌝ }
-    ensures { λ _. ⌜ (now (rest .exit) ≡ (openLast (blockOf c) (modeOf k c key (now (nonce .entry))) (stateOf k (blockOf c) s) (now (part .entry))) .body ++ drop (length (now (part .entry)) - blockOf c) (now (rest .entry))) × (length ((openLast (blockOf c) (modeOf k c key (now (nonce .entry))) (stateOf k (blockOf c) s) (now (part .entry))) .body) ≡ length (now (part .entry)) - blockOf c) ⌝ }
+    requires { ⌜ Ready c k (now nonce) s × Openable (blockOf c) (now part) (now rest) × (length (now part) ≤ blockOf c + blockOf c) ⌝ }
+    ensures { λ r. ⌜ OpenEnded c k key (now (nonce .entry)) s (now (part .entry)) (now (rest .entry)) r (now (rest .exit)) ⌝ }
 {
     let n = ciphers::block_of(c);
     let r = part.len() - n;
@@ -86,9 +82,8 @@ pub fn run(
     run: &[u8],
     room: &mut [u8],
 ) -> bool
-    requires { ⌜ (length (now nonce) + tailOf k ≡ blockOf c) × (start .number ≤ 1) × (blockOf c < length (now run)) × (length (now run) ≤ 4294967295) × (length (now run) ≤ length (now room) + blockOf c) ⌝ }
-    ensures { λ r. ⌜ r ≡ (openRest (blockOf c) (modeOf k c key (now (nonce .entry))) (stateOf k (blockOf c) start) (now (run .entry))) .authentic ⌝ }
-    ensures { λ _. ⌜ (now (room .exit) ≡ (openRest (blockOf c) (modeOf k c key (now (nonce .entry))) (stateOf k (blockOf c) start) (now (run .entry))) .body ++ drop (length (now (run .entry)) - blockOf c) (now (room .entry))) × (length ((openRest (blockOf c) (modeOf k c key (now (nonce .entry))) (stateOf k (blockOf c) start) (now (run .entry))) .body) ≡ length (now (run .entry)) - blockOf c) ⌝ }
+    requires { ⌜ Walkable c k (now nonce) (now run) × (start .number ≤ 1) × Openable (blockOf c) (now run) (now room) × (blockOf c < length (now run)) ⌝ }
+    ensures { λ r. ⌜ RunOpened c k key (now (nonce .entry)) start (now (run .entry)) (now (room .entry)) r (now (room .exit)) ⌝ }
 {
     let n = ciphers::block_of(c);
     let mut s = start;

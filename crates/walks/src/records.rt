@@ -6,13 +6,10 @@ use blocks::equal;
 use blocks::store;
 use ciphers::Cipher;
 use steps::Kind;
-ghost use mathlib.Core.Path.{_≡_};
-ghost use mathlib.Core.List.{_++_};
-ghost use Prim.Native.Nat.{_+_, _-_, _≤_};
-ghost use lib.ListN.{length, drop};
+ghost use Prim.Native.Nat.{_+_, _≤_};
+ghost use lib.ListN.{length};
 ghost use Rattle.ciphers.specs.Ciphers.{blockOf};
-ghost use Rattle.modes.specs.Mode.{sealRun, openRun};
-ghost use Rattle.steps.specs.Modes.{modeOf, tailOf};
+ghost use Rattle.walks.specs.Walks.{Walkable, Openable, RecordSealed, RecordOpened};
 
 // What the body is sealed to, at the front of the room.
 pub fn seal(
@@ -24,8 +21,8 @@ pub fn seal(
     body: &[u8],
     room: &mut [u8],
 )
-    requires { ⌜ (length (now nonce) + tailOf k ≡ blockOf c) × (length (now header) ≤ 4294967295) × (length (now body) ≤ 4294967295) × (length (now body) + blockOf c ≤ length (now room)) ⌝ }
-    ensures { λ _. ⌜ now (room .exit) ≡ sealRun (blockOf c) (modeOf k c key (now (nonce .entry))) (now (header .entry)) (now (body .entry)) ++ drop (length (now (body .entry)) + blockOf c) (now (room .entry)) ⌝ }
+    requires { ⌜ Walkable c k (now nonce) (now header) × Walkable c k (now nonce) (now body) × (length (now body) + blockOf c ≤ length (now room)) ⌝ }
+    ensures { λ _. ⌜ RecordSealed c k key (now (nonce .entry)) (now (header .entry)) (now (body .entry)) (now (room .entry)) (now (room .exit)) ⌝ }
 {
     if body.len() == 0 {
         let s = head(c, k, key, nonce, true, header);
@@ -47,9 +44,8 @@ pub fn open(
     run: &[u8],
     room: &mut [u8],
 ) -> bool
-    requires { ⌜ (length (now nonce) + tailOf k ≡ blockOf c) × (length (now header) ≤ 4294967295) × (length (now run) ≤ 4294967295) × (blockOf c ≤ length (now run)) × (length (now run) ≤ length (now room) + blockOf c) ⌝ }
-    ensures { λ r. ⌜ r ≡ (openRun (blockOf c) (modeOf k c key (now (nonce .entry))) (now (header .entry)) (now (run .entry))) .authentic ⌝ }
-    ensures { λ _. ⌜ (now (room .exit) ≡ (openRun (blockOf c) (modeOf k c key (now (nonce .entry))) (now (header .entry)) (now (run .entry))) .body ++ drop (length (now (run .entry)) - blockOf c) (now (room .entry))) × (length ((openRun (blockOf c) (modeOf k c key (now (nonce .entry))) (now (header .entry)) (now (run .entry))) .body) ≡ length (now (run .entry)) - blockOf c) ⌝ }
+    requires { ⌜ Walkable c k (now nonce) (now header) × Walkable c k (now nonce) (now run) × Openable (blockOf c) (now run) (now room) ⌝ }
+    ensures { λ r. ⌜ RecordOpened c k key (now (nonce .entry)) (now (header .entry)) (now (run .entry)) (now (room .entry)) r (now (room .exit)) ⌝ }
 {
     let n = ciphers::block_of(c);
     if run.len() == n {

@@ -5,13 +5,10 @@ use blocks::store;
 use ciphers::Cipher;
 use steps::Kind;
 use steps::State;
-ghost use mathlib.Core.Path.{_≡_};
-ghost use mathlib.Core.List.{_++_};
 ghost use Prim.Native.Nat.{_+_, _≤_, _<_};
-ghost use lib.ListN.{length, take, drop};
+ghost use lib.ListN.{length};
 ghost use Rattle.ciphers.specs.Ciphers.{blockOf};
-ghost use Rattle.modes.specs.Mode.{sealLast, sealRest};
-ghost use Rattle.steps.specs.Modes.{modeOf, tailOf, stateOf};
+ghost use Rattle.walks.specs.Walks.{Ready, Walkable, SealTurned, SealEnded, BodySealed};
 
 // The block at the front of a part, not the last one.
 fn turn(
@@ -23,9 +20,8 @@ fn turn(
     part: &[u8],
     rest: &mut [u8],
 ) -> State
-    requires { ⌜ (length (now nonce) + tailOf k ≡ blockOf c) × (s .number ≤ 4294967296) × (blockOf c ≤ length (now part)) × (blockOf c ≤ length (now rest)) ⌝ }
-    ensures { λ r. ⌜ (stateOf k (blockOf c) r ≡ (modeOf k c key (now (nonce .entry))) .next (stateOf k (blockOf c) s) (take (blockOf c) (now (part .entry)))) × (r .number ≤ s .number + 1) ⌝ }
-    ensures { λ _. ⌜ (now (rest .exit) ≡ (modeOf k c key (now (nonce .entry))) .out (stateOf k (blockOf c) s) (take (blockOf c) (now (part .entry))) ++ drop (blockOf c) (now (rest .entry))) × (length ((modeOf k c key (now (nonce .entry))) .out (stateOf k (blockOf c) s) (take (blockOf c) (now (part .entry)))) ≡ blockOf c) ⌝ }
+    requires { ⌜ Ready c k (now nonce) s × (blockOf c ≤ length (now part)) × (blockOf c ≤ length (now rest)) ⌝ }
+    ensures { λ r. ⌜ SealTurned c k key (now (nonce .entry)) s (now (part .entry)) (now (rest .entry)) r (now (rest .exit)) ⌝ }
 {
     let n = ciphers::block_of(c);
     let x = load(part, n);
@@ -37,8 +33,8 @@ fn turn(
 
 // The last one, short or full: its block, and as many bytes of the second as it had itself.
 fn end(c: Cipher, k: Kind, key: [u8; 16], nonce: &[u8], s: State, part: &[u8], rest: &mut [u8])
-    requires { ⌜ (length (now nonce) + tailOf k ≡ blockOf c) × (s .number ≤ 4294967296) × (length (now part) ≤ blockOf c) × (length (now part) + blockOf c ≤ length (now rest)) ⌝ }
-    ensures { λ _. ⌜ (now (rest .exit) ≡ sealLast (blockOf c) (modeOf k c key (now (nonce .entry))) (stateOf k (blockOf c) s) (now (part .entry)) ++ drop (length (now (part .entry)) + blockOf c) (now (rest .entry))) × (length (sealLast (blockOf c) (modeOf k c key (now (nonce .entry))) (stateOf k (blockOf c) s) (now (part .entry))) ≡ length (now (part .entry)) + blockOf c) ⌝ }
+    requires { ⌜ Ready c k (now nonce) s × (length (now part) ≤ blockOf c) × (length (now part) + blockOf c ≤ length (now rest)) ⌝ }
+    ensures { λ _. ⌜ SealEnded c k key (now (nonce .entry)) s (now (part .entry)) (now (rest .entry)) (now (rest .exit)) ⌝ }
 {
     let n = ciphers::block_of(c);
     let l = part.len();
@@ -60,8 +56,8 @@ pub fn body(
     body: &[u8],
     room: &mut [u8],
 )
-    requires { ⌜ (length (now nonce) + tailOf k ≡ blockOf c) × (start .number ≤ 1) × (0 < length (now body)) × (length (now body) ≤ 4294967295) × (length (now body) + blockOf c ≤ length (now room)) ⌝ }
-    ensures { λ _. ⌜ now (room .exit) ≡ sealRest (blockOf c) (modeOf k c key (now (nonce .entry))) (stateOf k (blockOf c) start) (now (body .entry)) ++ drop (length (now (body .entry)) + blockOf c) (now (room .entry)) ⌝ }
+    requires { ⌜ Walkable c k (now nonce) (now body) × (start .number ≤ 1) × (0 < length (now body)) × (length (now body) + blockOf c ≤ length (now room)) ⌝ }
+    ensures { λ _. ⌜ BodySealed c k key (now (nonce .entry)) start (now (body .entry)) (now (room .entry)) (now (room .exit)) ⌝ }
 {
     let n = ciphers::block_of(c);
     let mut s = start;

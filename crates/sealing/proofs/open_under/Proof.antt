@@ -49,11 +49,16 @@ open-requires c κs =
     let p = check-passed (a .s) _ _ _ _ _ _ _ (sym (after-check .check .ensures) ∙ test .if1 .left) in
     let q = ltb-false (length (a .sealed .now)) (after-block-of .block-of .result)
     (check-long (a .s) _ _ _ _ _ _ _ (sym (after-check .check .ensures) ∙ test .if1 .left)) in (
-      omega (arith, p .nonce-is, start .pre .nonce),
-      omega (arith, p .header-fits, start .pre .header),
-      omega (arith, p .body-fits, start .pre .body, after-body-of .body-of .ensures, q, after-block-of .block-of .ensures, block-most (a .s .cipher)),
-      omega (arith, q, after-block-of .block-of .ensures),
-      omega (arith, p .room-fits, after-body-of .body-of .ensures, q, after-block-of .block-of .ensures),
+      record { fills = omega (arith, p .nonce-is, start .pre .nonce); few = omega (arith, p .header-fits, start .pre .header) },
+      record {
+        fills = omega (arith, p .nonce-is, start .pre .nonce);
+        few =
+            omega (arith, p .body-fits, start .pre .body, after-body-of .body-of .ensures, q, after-block-of .block-of .ensures, block-most (a .s .cipher));
+      },
+      record {
+        block = omega (arith, q, after-block-of .block-of .ensures);
+        fits = omega (arith, p .room-fits, after-body-of .body-of .ensures, q, after-block-of .block-of .ensures);
+      },
     )
 
 same-length : tie.Need-same-length
@@ -73,7 +78,7 @@ returns-2 c =
     open-does (a .s) (a .key .now) (a .nonce .now) (a .header .now) _ (after-block-of .block-of .ensures) _ (a .sealed .now)
     (a .room .now) _ _ (after-body-of .body-of .ensures) refl (after-check .check .ensures)
     (test .if1 .left) _ (key-same (a .key .now) _ (omega (arith, p .key-is, start .pre .key)) (after-front .front .ensures)) _ _
-    (after-open .«open» .ensures .0) (after-open .«open» .ensures .1 .0) (c .if2 .taken)
+    (after-open .«open» .ensures) (c .if2 .taken)
 
 clear-requires : tie.Need-clear-requires
 clear-requires c κs =
@@ -103,8 +108,7 @@ returns-3 c =
     open-forges (a .s) (a .key .now) (a .nonce .now) (a .header .now) _ (after-block-of .block-of .ensures) _ (a .sealed .now)
     (a .room .now) _ _ (after-body-of .body-of .ensures) refl (after-check .check .ensures)
     (test .if1 .left) _ (key-same (a .key .now) _ (omega (arith, p .key-is, start .pre .key)) (after-front .front .ensures)) _ _
-    (after-open .«open» .ensures .0) (after-open .«open» .ensures .1 .0) (test2 .if2 .left) _ (after-open .«open» .ensures .1 .1)
-    (after-clear .clear .ensures)
+    (after-open .«open» .ensures) (test2 .if2 .left) _ (after-clear .clear .ensures)
 
 pub open-under-spec : {M : Type 1} → statement M
 open-under-spec =

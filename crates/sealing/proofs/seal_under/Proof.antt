@@ -40,9 +40,8 @@ seal-requires c κs =
     let start = after-block-of .before .before .before .before .before .before in
     let a = start .args in
     let p = check-passed (a .s) _ _ _ _ _ _ _ (sym (after-check .check .ensures) ∙ test .if1 .left) in (
-      omega (arith, p .nonce-is, start .pre .nonce),
-      omega (arith, p .header-fits, start .pre .header),
-      omega (arith, p .body-fits, start .pre .body),
+      record { fills = omega (arith, p .nonce-is, start .pre .nonce); few = omega (arith, p .header-fits, start .pre .header) },
+      record { fills = omega (arith, p .nonce-is, start .pre .nonce); few = omega (arith, p .body-fits, start .pre .body) },
       omega (arith, p .room-fits, after-block-of .block-of .ensures),
     )
 

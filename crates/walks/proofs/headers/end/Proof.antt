@@ -33,12 +33,14 @@ returns c =
     let n = blockOf (a .c) in
     let e = after-block-of .block-of .ensures in
     let f = after-is-full .is-full .ensures ∙ ap (λ (m : ℕ). full m (length (a .part .now))) e in
-    let l = loaded _ n _ (a .part .now) e (c .before .load .ensures) in (
-      c .head-last .ensures .0 ∙
+    let l = loaded _ n _ (a .part .now) e (c .before .load .ensures) in
+    record {
+      state =
+          c .head-last .ensures .0 ∙
           (λ i. modeOf (a .k) (a .c) (a .key) (a .nonce .now) .headLast (a .empty) (f i) (stateOf (a .k) n (a .s))
-          (l i)),
-      c .head-last .ensures .1,
-    )
+          (l i));
+      number = c .head-last .ensures .1;
+    }
 
 pub end-spec : {M : Type 1} → statement M
 end-spec =

@@ -6,6 +6,7 @@ use Rattle.ciphers.specs.Ciphers.{blockOf}
 use Rattle.modes.specs.Mode.{walk, headed}
 use Rattle.modes.proofs.Rest.{headed-skip, headed-none, headed-some}
 use Rattle.steps.specs.Modes.{modeOf}
+use Rattle.walks.proofs.Answered.{reached-as}
 use borrow.Author.Needs.{needs}
 use Rattle.walks.proofs.headers.head.Statement.{statement}
 use Rattle.walks.proofs.headers.head.Tie as tie
@@ -19,13 +20,8 @@ returns c =
     let n = blockOf (a .c) in
     let M = modeOf (a .k) (a .c) (a .key) (a .nonce .now) in
     let h = a .header .now in
-    let b = c .before .if1 .taken in (
-      c .walk .ensures .0
-          ∙ ap (λ (b : Bool). walk n M b (M .start) h) b
-          ∙ sym (headed-none n M h)
-          ∙ sym (ap (λ (b : Bool). headed n M b h) b),
-      c .walk .ensures .1,
-    )
+    let b = c .before .if1 .taken in
+    reached-as (ap (λ (b : Bool). walk n M b (M .start) h) b ∙ sym (headed-none n M h) ∙ sym (ap (λ (b : Bool). headed n M b h) b)) (c .walk .ensures)
 
 start-requires : tie.Need-start-requires
 start-requires c κs = search needs
@@ -35,12 +31,14 @@ returns-2 c =
     let a = c .before .before .before .before .before .args in
     let n = blockOf (a .c) in
     let M = modeOf (a .k) (a .c) (a .key) (a .nonce .now) in
-    let h = a .header .now in (
-      c .start .ensures .0
+    let h = a .header .now in
+    record {
+      state =
+          c .start .ensures .0
           ∙ sym (headed-skip n M h (c .before .if2 .taken))
-          ∙ sym (ap (λ (b : Bool). headed n M b h) (c .before .before .if1 .left)),
-      c .start .ensures .1,
-    )
+          ∙ sym (ap (λ (b : Bool). headed n M b h) (c .before .before .if1 .left));
+      number = c .start .ensures .1;
+    }
 
 walk-requires-2 : tie.Need-walk-requires-2
 walk-requires-2 c κs = search needs
@@ -51,7 +49,7 @@ returns-3 c =
     let n = blockOf (a .c) in
     let M = modeOf (a .k) (a .c) (a .key) (a .nonce .now) in
     let h = a .header .now in
-    (c .walk2 .ensures .0 ∙ sym (headed-some n M (a .empty) h (omega (arith, c .before .if2 .left))), c .walk2 .ensures .1)
+    reached-as (sym (headed-some n M (a .empty) h (omega (arith, c .before .if2 .left)))) (c .walk2 .ensures)
 
 pub head-spec : {M : Type 1} → statement M
 head-spec =

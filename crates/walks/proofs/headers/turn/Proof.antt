@@ -24,11 +24,13 @@ returns c =
     let start = after-block-of .before .before .before in
     let a = start .args in
     let l = loaded-full _ (blockOf (a .c)) _ (a .part .now) (after-block-of .block-of .ensures) (c .before .load .ensures)
-    (start .pre .2) in (
-      c .head .ensures .0 ∙ ap
-          (modeOf (a .k) (a .c) (a .key) (a .nonce .now) .head (stateOf (a .k) (blockOf (a .c)) (a .s))) l,
-      c .head .ensures .1,
-    )
+    (start .pre .1) in
+    record {
+      state =
+          c .head .ensures .0 ∙ ap
+          (modeOf (a .k) (a .c) (a .key) (a .nonce .now) .head (stateOf (a .k) (blockOf (a .c)) (a .s))) l;
+      number = c .head .ensures .1;
+    }
 
 pub turn-spec : {M : Type 1} → statement M
 turn-spec = tie.close (tie.spec block-of-requires load-requires head-requires returns)

@@ -4,7 +4,7 @@ use native.Mathlib.Omega.{arith}
 use lib.ListN.{length}
 use borrow.Author.Needs.{needs}
 use Rattle.ciphers.proofs.Laws.{block-some}
-use Rattle.walks.proofs.Places.{part-long}
+use Rattle.walks.proofs.Places.{ready-at, lent-long}
 use Rattle.walks.proofs.Walked.{Walked, walked-none, walked-more, walked-end}
 use Rattle.walks.proofs.headers.walk.Statement.{statement}
 use Rattle.walks.proofs.headers.walk.Tie as tie
@@ -39,11 +39,9 @@ part-turn-end c = omega arith
 turn-requires : tie.Need-turn-requires Inv-loop μ-loop
 turn-requires c κs =
     let start = c .before .before .before .before .before .before .before in
-    let l = c .before .before in
-    let a = start .args in (
-      start .pre .0,
-      omega (arith, l .loop .inv .number, l .loop .inv .inside, start .pre .1),
-      omega (arith, part-long (l .loop .at) (a .header .now), c .before .loop-test .taken, l .loop .inv .size),
+    let l = c .before .before in (
+      ready-at (start .pre) (l .loop .at) (l .loop .inv .number) (l .loop .inv .inside),
+      omega (arith, lent-long (l .loop .at) (start .args .header .now), c .before .loop-test .taken, l .loop .inv .size),
     )
 
 add-at : tie.Need-add-at Inv-loop μ-loop
@@ -60,7 +58,7 @@ loop-again : tie.Need-loop-again Inv-loop μ-loop
 loop-again c =
     let in-loop = c .before .before in
     let at-loop = in-loop .before in
-    walked-more _ _ _ _ _ _ (at-loop .loop .inv) _ (in-loop .loop-test .taken) (c .turn .ensures .0) (c .turn .ensures .1)
+    walked-more _ _ _ _ _ _ (at-loop .loop .inv) _ (in-loop .loop-test .taken) (c .turn .ensures)
 
 sub-end : tie.Need-sub-end Inv-loop μ-loop
 sub-end c = c .before .loop .inv .inside
@@ -75,13 +73,13 @@ end-requires : tie.Need-end-requires Inv-loop μ-loop
 end-requires c κs =
     let start = c .before .before .before .before .before .before .before in
     let l = c .before .before in
-    (start .pre .0, omega (arith, l .loop .inv .number, l .loop .inv .inside, start .pre .1))
+    ready-at (start .pre) (l .loop .at) (l .loop .inv .number) (l .loop .inv .inside)
 
 returns : tie.Need-returns Inv-loop μ-loop
 returns c =
     let in-loop = c .before .before in
     let at-loop = in-loop .before in
-    (walked-end _ _ _ _ _ _ (at-loop .loop .inv) _ (in-loop .loop-test .left) (c .end .ensures .0), c .end .ensures .1)
+    walked-end _ _ _ _ _ _ (at-loop .loop .inv) _ (in-loop .loop-test .left) (c .end .ensures)
 
 pub walk-spec : {M : Type 1} → statement M
 walk-spec =

@@ -25,7 +25,7 @@ store-requires : tie.Need-store-requires
 store-requires c κs =
     let n = c .before .before .before .before .before .before in
     let st = n .before .before .before .before in
-    (omega (arith, n .block-of .ensures, block-most (st .args .c), st .pre .3), omega (arith, n .block-of .ensures, st .pre .4))
+    (omega (arith, n .block-of .ensures, block-most (st .args .c), st .pre .2), omega (arith, n .block-of .ensures, st .pre .1 .fits))
 
 sub-judge : tie.Need-sub-judge
 sub-judge c = search needs
@@ -40,7 +40,7 @@ judge-requires : tie.Need-judge-requires
 judge-requires c κs =
     let n = c .before .before .before .before .before .before .before .before .before .before in
     let st = n .before .before .before .before in
-    (omega (arith, n .block-of .ensures, st .pre .3), omega (arith, n .block-of .ensures, block-most (st .args .c)))
+    (omega (arith, n .block-of .ensures, st .pre .2), omega (arith, n .block-of .ensures, block-most (st .args .c)))
 
 same-length : tie.Need-same-length
 same-length c = search needs
@@ -53,11 +53,11 @@ returns c =
     let n = f .before in
     let st = n .before .before .before .before in
     let a = st .args in
-    ended (a .k) (a .c) (a .key) (a .nonce .now) (a .s) (a .part .now) (a .rest .now) (n .block-of .result) (f .is-full .result)
+    ended (a .c) (a .k) (a .key) (a .nonce .now) (a .s) (a .part .now) (a .rest .now) (n .block-of .result) (f .is-full .result)
     (o .before .load .result) (o .open-last .result .first) (o .open-last .result .second) (c .judge .result) (w .store .last .0)
     (n .block-of .ensures) (f .is-full .ensures) (o .before .load .ensures) (o .open-last .ensures) (w .store .ensures)
     (c .judge .ensures)
-    (st .pre .2) (st .pre .3)
+    (st .pre .1 .block) (st .pre .2)
 
 pub end-spec : {M : Type 1} → statement M
 end-spec =

@@ -10,7 +10,7 @@ use Rattle.walks.proofs.opening.run.Statement.{statement}
 use Rattle.walks.proofs.opening.run.Tie as tie
 
 abbrev Inv-loop : tie.InvT-loop
-Inv-loop c k key nonce run room₀ n s₀ at₀ room s at = OpenGoing k c key nonce run s₀ room₀ s at room
+Inv-loop c k key nonce run room₀ n s₀ at₀ room s at = OpenGoing c k key nonce run s₀ room₀ s at room
 
 abbrev μ-loop : tie.MeasureT-loop
 μ-loop c k key nonce run room₀ n s₀ at₀ room s at = length run - at
@@ -22,7 +22,7 @@ loop-holds : tie.Need-loop-holds Inv-loop μ-loop
 loop-holds c =
     let st = c .before .before .before .before in
     let a = st .args in
-    opening-none (a .k) (a .c) (a .key) (a .nonce .now) (a .run .now) (a .start) (a .room .now) (st .pre .1) (st .pre .2)
+    opening-none (a .c) (a .k) (a .key) (a .nonce .now) (a .run .now) (a .start) (a .room .now) (st .pre .1) (st .pre .3)
 
 sub-loop : tie.Need-sub-loop Inv-loop μ-loop
 sub-loop c = omega (arith, c .before .block-of .ensures, c .loop .inv .inside)
@@ -54,13 +54,12 @@ turn-requires c κs =
     let n = i .before .before in
     let st = n .before .before .before .before in
     let a = st .args in
-    let m = turn-may (a .k) (a .c) (a .key) (a .nonce .now) (a .run .now) (a .start) (a .room .now) (i .before .loop .inv) (n .block-of .result) (n .block-of .ensures) (st .pre .3) (st .pre .4) (i .loop-test .taken) in
-    (st .pre .0, m .0, m .1, m .2)
+    turn-may (a .c) (a .k) (a .key) (a .nonce .now) (a .run .now) (a .start) (a .room .now) (i .before .loop .inv) (n .block-of .result) (n .block-of .ensures) (st .pre .0) (st .pre .2) (i .loop-test .taken)
 
 add-at : tie.Need-add-at Inv-loop μ-loop
 add-at c =
     let l = c .before .before .before .before .before .before in
-    omega (arith, l .loop .inv .inside, l .before .block-of .ensures, l .before .before .before .before .before .pre .3)
+    omega (arith, l .loop .inv .inside, l .before .block-of .ensures, l .before .before .before .before .before .pre .0 .few)
 
 loop-less : tie.Need-loop-less Inv-loop μ-loop
 loop-less c =
@@ -81,7 +80,7 @@ loop-again c =
     let n = l .before in
     let st = n .before .before .before .before in
     let a = st .args in
-    opening-more (a .k) (a .c) (a .key) (a .nonce .now) (a .run .now) (a .start) (a .room .now) (l .loop .inv) (n .block-of .result) (n .block-of .ensures) (st .pre .3) (st .pre .4) (i .loop-test .taken) (r .turn .result)
+    opening-more (a .c) (a .k) (a .key) (a .nonce .now) (a .run .now) (a .start) (a .room .now) (l .loop .inv) (n .block-of .result) (n .block-of .ensures) (st .pre .0) (st .pre .2) (i .loop-test .taken) (r .turn .result)
     (r .turn .last .1 .1 .1 .1 .1 .1 .0) (r .turn .ensures)
 
 sub-end : tie.Need-sub-end Inv-loop μ-loop
@@ -108,8 +107,7 @@ end-requires c κs =
     let n = i .before .before in
     let st = n .before .before .before .before in
     let a = st .args in
-    let m = end-may (a .k) (a .c) (a .key) (a .nonce .now) (a .run .now) (a .start) (a .room .now) (i .before .loop .inv) (n .block-of .result) (n .block-of .ensures) (st .pre .3) (st .pre .4) (i .loop-test .left) in
-    (st .pre .0, m .0, m .1, m .2, m .3)
+    end-may (a .c) (a .k) (a .key) (a .nonce .now) (a .run .now) (a .start) (a .room .now) (i .before .loop .inv) (n .block-of .result) (n .block-of .ensures) (st .pre .0) (st .pre .2) (i .loop-test .left)
 
 same-length : tie.Need-same-length Inv-loop μ-loop
 same-length c = search needs
@@ -122,7 +120,7 @@ returns c =
     let n = l .before in
     let st = n .before .before .before .before in
     let a = st .args in
-    opening-end (a .k) (a .c) (a .key) (a .nonce .now) (a .run .now) (a .start) (a .room .now) (l .loop .inv) (n .block-of .result) (n .block-of .ensures) (st .pre .3) (st .pre .4) (i .loop-test .left) (r .end .result)
+    opening-end (a .c) (a .k) (a .key) (a .nonce .now) (a .run .now) (a .start) (a .room .now) (l .loop .inv) (n .block-of .result) (n .block-of .ensures) (st .pre .0) (st .pre .2) (i .loop-test .left) (r .end .result)
     (r .end .last .1 .1 .1 .1 .1 .1 .0) (r .end .ensures)
 
 pub run-spec : {M : Type 1} → statement M

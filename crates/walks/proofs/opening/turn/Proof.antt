@@ -1,7 +1,6 @@
 -- `walks::opening::turn` meets its contract: `turned` of what the callees ensure. Assumes nothing.
 use native.Mathlib.Omega.{arith}
 use Rattle.ciphers.proofs.Laws.{block-most}
-use Rattle.steps.specs.Modes.{modeOf}
 use Rattle.walks.proofs.Turned.{turned}
 use borrow.Author.Needs.{needs}
 use Rattle.walks.proofs.opening.turn.Statement.{statement}
@@ -20,7 +19,7 @@ store-requires : tie.Need-store-requires
 store-requires c κs =
     let n = c .before .before .before .before in
     let st = n .before .before .before .before in
-    (omega (arith, n .block-of .ensures, block-most (st .args .c)), omega (arith, n .block-of .ensures, st .pre .3))
+    (omega (arith, n .block-of .ensures, block-most (st .args .c)), omega (arith, n .block-of .ensures, st .pre .2))
 
 same-length : tie.Need-same-length
 same-length c = search needs
@@ -33,9 +32,8 @@ returns c =
     let after-block-of = after-load .before in
     let start = after-block-of .before .before .before .before in
     let a = start .args in
-    let M = modeOf (a .k) (a .c) (a .key) (a .nonce .now) in
-    turned (a .k) (a .c) (M .back) (M .backNext) (a .s) (a .part .now) (a .rest .now) _ _ _ _ _ (after-block-of .block-of .ensures)
-    (after-load .load .ensures) (after-step .open-block .ensures) (after-store .store .ensures) (start .pre .2)
+    turned (a .c) (a .part .now) (a .rest .now) (after-block-of .block-of .ensures) (after-load .load .ensures)
+    (after-step .open-block .ensures) (after-store .store .ensures) (start .pre .1)
 
 pub turn-spec : {M : Type 1} → statement M
 turn-spec =

@@ -1,11 +1,10 @@
 -- `walks::records::open` meets its contract: the header, and then one block or the walk over the run. Assumes nothing.
-use Prim.Native.Nat.{_<_}
 use native.Mathlib.Omega.{arith}
-use lib.ListN.{length, length-take}
+use lib.ListN.{length-take}
 use Rattle.ciphers.proofs.Laws.{block-most}
 use Rattle.ciphers.specs.Ciphers.{blockOf}
 use Rattle.steps.specs.Modes.{modeOf}
-use Rattle.walks.proofs.FromHeader.{open-none, open-none-room, open-none-long, open-some, open-some-room, open-some-long}
+use Rattle.walks.proofs.FromHeader.{open-none, open-some}
 use borrow.Author.Needs.{needs}
 use Rattle.walks.proofs.records.open.Statement.{statement}
 use Rattle.walks.proofs.records.open.Tie as tie
@@ -43,16 +42,9 @@ returns c =
     let start = after-block-of .before .before .before .before .before in
     let a = start .args in
     let n = blockOf (a .c) in
-    let M = modeOf (a .k) (a .c) (a .key) (a .nonce .now) in (
-      open-none n M (a .header .now) _ _ _ (after-block-of .block-of .ensures) (after-head .head .ensures .0)
-          (after-alone .alone .ensures) (a .run .now) _ (test .if1 .taken) (c .equal .ensures),
-      (
-        open-none-room n M (a .header .now) _ _ _ (after-block-of .block-of .ensures) (after-head .head .ensures .0)
-            (after-alone .alone .ensures) (a .run .now) _ (test .if1 .taken),
-        open-none-long n M (a .header .now) _ _ _ (after-block-of .block-of .ensures) (after-head .head .ensures .0)
-            (after-alone .alone .ensures) (a .run .now) (test .if1 .taken),
-      ),
-    )
+    let M = modeOf (a .k) (a .c) (a .key) (a .nonce .now) in
+    open-none n M (a .header .now) _ _ _ (after-block-of .block-of .ensures) (after-head .head .ensures .state)
+    (after-alone .alone .ensures) (a .run .now) _ _ (test .if1 .taken) (c .equal .ensures)
 
 head-requires-2 : tie.Need-head-requires-2
 head-requires-2 c κs = search needs
@@ -73,13 +65,8 @@ returns-2 c =
     let a = start .args in
     let n = blockOf (a .c) in
     let M = modeOf (a .k) (a .c) (a .key) (a .nonce .now) in
-    let l : n < length (a .run .now) = omega (arith, test .if1 .left, after-block-of .block-of .ensures, start .pre .3) in (
-      open-some n M (a .header .now) _ (after-head2 .head2 .ensures .0) (a .run .now) l _ (after-run .run .ensures .0),
-      (
-        open-some-room n M (a .header .now) _ (after-head2 .head2 .ensures .0) (a .run .now) l _ _ (after-run .run .ensures .1 .0),
-        open-some-long n M (a .header .now) _ (after-head2 .head2 .ensures .0) (a .run .now) l (after-run .run .ensures .1 .1),
-      ),
-    )
+    open-some n M (a .header .now) _ (after-head2 .head2 .ensures .state) (a .run .now) _ _ _
+    (omega (arith, test .if1 .left, after-block-of .block-of .ensures, start .pre .2 .block)) (after-run .run .ensures)
 
 pub open-spec : {M : Type 1} → statement M
 open-spec =

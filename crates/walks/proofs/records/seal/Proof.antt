@@ -1,5 +1,6 @@
 -- `walks::records::seal` meets its contract: the header, and then one block or the walk over the body. Assumes nothing.
 use native.Mathlib.Omega.{arith}
+use lib.Seq.{length-take-le}
 use Rattle.ciphers.proofs.Laws.{block-most}
 use Rattle.ciphers.specs.Ciphers.{blockOf}
 use Rattle.steps.specs.Modes.{modeOf}
@@ -23,7 +24,7 @@ store-requires c κs =
     let start = after-block-of .before .before .before .before .before .before .before in (
       omega (arith, after-block-of .block-of .ensures, block-most (start .args .c)),
       omega
-          (arith, after-block-of .block-of .ensures, start .pre .3),
+          (arith, after-block-of .block-of .ensures, start .pre .2),
     )
 
 same-length : tie.Need-same-length
@@ -40,8 +41,12 @@ returns c =
     let a = start .args in
     let n = blockOf (a .c) in
     let M = modeOf (a .k) (a .c) (a .key) (a .nonce .now) in
-    seal-none n M (a .header .now) _ _ _ (after-block-of .block-of .ensures) (after-head .head .ensures .0)
-    (after-alone .alone .ensures) (a .body .now) _ _ (test .if1 .taken) (after-store .store .ensures)
+    seal-none n M (a .header .now) _ _ _ (after-block-of .block-of .ensures) (after-head .head .ensures .state)
+    (after-alone .alone .ensures) (a .body .now) _ _ (test .if1 .taken)
+    (record {
+      said = after-store .store .ensures;
+      long = length-take-le _ _ (omega (arith, after-alone .alone .ok, after-block-of .block-of .ensures, block-most (a .c)));
+    })
 
 head-requires-2 : tie.Need-head-requires-2
 head-requires-2 c κs = search needs
@@ -61,7 +66,7 @@ returns-2 c =
     let a = start .args in
     let n = blockOf (a .c) in
     let M = modeOf (a .k) (a .c) (a .key) (a .nonce .now) in
-    seal-some n M (a .header .now) _ (after-head2 .head2 .ensures .0) (a .body .now) _ _ (omega (arith, test .if1 .left))
+    seal-some n M (a .header .now) _ (after-head2 .head2 .ensures .state) (a .body .now) _ _ (omega (arith, test .if1 .left))
     (after-body .body .ensures)
 
 pub seal-spec : {M : Type 1} → statement M

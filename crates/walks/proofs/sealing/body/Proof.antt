@@ -4,7 +4,7 @@ use native.Mathlib.Omega.{arith}
 use lib.ListN.{length}
 use borrow.Author.Needs.{needs}
 use Rattle.ciphers.proofs.Laws.{block-some}
-use Rattle.walks.proofs.Places.{part-long}
+use Rattle.walks.proofs.Places.{ready-at, lent-long}
 use Rattle.walks.proofs.Sealed.{SealGoing, sealing-none, sealing-more, sealing-end}
 use Rattle.walks.proofs.sealing.body.Statement.{statement}
 use Rattle.walks.proofs.sealing.body.Tie as tie
@@ -40,13 +40,13 @@ sub-turn-2 : tie.Need-sub-turn-2 Inv-loop μ-loop
 sub-turn-2 c =
     let at-loop = c .before .before in
     let start = at-loop .before .before .before .before .before in
-    omega (arith, at-loop .loop .inv .inside, at-loop .loop .inv .writing .wrote .long, start .pre .4)
+    omega (arith, at-loop .loop .inv .inside, at-loop .loop .inv .writing .wrote .long, start .pre .3)
 
 part-turn-start-2 : tie.Need-part-turn-start-2 Inv-loop μ-loop
 part-turn-start-2 c =
     let at-loop = c .before .before in
     let start = at-loop .before .before .before .before .before in
-    omega (arith, at-loop .loop .inv .inside, at-loop .loop .inv .writing .wrote .long, start .pre .4)
+    omega (arith, at-loop .loop .inv .inside, at-loop .loop .inv .writing .wrote .long, start .pre .3)
 
 part-turn-end-2 : tie.Need-part-turn-end-2 Inv-loop μ-loop
 part-turn-end-2 c = omega arith
@@ -59,17 +59,16 @@ turn-requires c κs =
     let start = after-block-of .before .before .before .before in
     let l = at-loop .loop in
     let a = start .args in (
-      start .pre .0,
-      omega (arith, l .inv .number, l .inv .inside, start .pre .3),
-      omega (arith, part-long (l .at) (a .body .now), in-loop .loop-test .taken, after-block-of .block-of .ensures),
+      ready-at (start .pre .0) (l .at) (l .inv .number) (omega (arith, l .inv .inside)),
+      omega (arith, lent-long (l .at) (a .body .now), in-loop .loop-test .taken, after-block-of .block-of .ensures),
       omega (
         arith,
-        part-long (l .at)
+        lent-long (l .at)
             (l .room),
         in-loop .loop-test .taken,
         after-block-of .block-of .ensures,
         l .inv .writing .wrote .long,
-        start .pre .4,
+        start .pre .3,
       ),
     )
 
@@ -95,7 +94,7 @@ loop-again c =
     let start = after-block-of .before .before .before .before in
     let a = start .args in
     sealing-more (a .c) (a .k) (a .key) (a .nonce .now) (a .body .now) (a .room .now) (a .start) (at-loop .loop .inv) _
-    (after-block-of .block-of .ensures) (start .pre .4) _ _ (in-loop .loop-test .taken) (after-turn .turn .ensures)
+    (after-block-of .block-of .ensures) (start .pre .3) _ _ (in-loop .loop-test .taken) (after-turn .turn .ensures)
 
 sub-end : tie.Need-sub-end Inv-loop μ-loop
 sub-end c = omega (arith, c .before .loop .inv .inside)
@@ -110,13 +109,13 @@ sub-end-2 : tie.Need-sub-end-2 Inv-loop μ-loop
 sub-end-2 c =
     let at-loop = c .before .before in
     let start = at-loop .before .before .before .before .before in
-    omega (arith, at-loop .loop .inv .inside, at-loop .loop .inv .writing .wrote .long, start .pre .4)
+    omega (arith, at-loop .loop .inv .inside, at-loop .loop .inv .writing .wrote .long, start .pre .3)
 
 part-end-start-2 : tie.Need-part-end-start-2 Inv-loop μ-loop
 part-end-start-2 c =
     let at-loop = c .before .before in
     let start = at-loop .before .before .before .before .before in
-    omega (arith, at-loop .loop .inv .inside, at-loop .loop .inv .writing .wrote .long, start .pre .4)
+    omega (arith, at-loop .loop .inv .inside, at-loop .loop .inv .writing .wrote .long, start .pre .3)
 
 part-end-end-2 : tie.Need-part-end-end-2 Inv-loop μ-loop
 part-end-end-2 c = omega arith
@@ -129,17 +128,16 @@ end-requires c κs =
     let start = after-block-of .before .before .before .before in
     let l = at-loop .loop in
     let a = start .args in (
-      start .pre .0,
-      omega (arith, l .inv .number, l .inv .inside, start .pre .3),
-      omega (arith, part-long (l .at) (a .body .now), in-loop .loop-test .left, after-block-of .block-of .ensures),
+      ready-at (start .pre .0) (l .at) (l .inv .number) (omega (arith, l .inv .inside)),
+      omega (arith, lent-long (l .at) (a .body .now), in-loop .loop-test .left, after-block-of .block-of .ensures),
       omega (
         arith,
-        part-long (l .at) (a .body .now),
-        part-long (l .at)
+        lent-long (l .at) (a .body .now),
+        lent-long (l .at)
             (l .room),
         l .inv .inside,
         l .inv .writing .wrote .long,
-        start .pre .4,
+        start .pre .3,
       ),
     )
 
@@ -155,7 +153,7 @@ returns c =
     let start = after-block-of .before .before .before .before in
     let a = start .args in
     sealing-end (a .c) (a .k) (a .key) (a .nonce .now) (a .body .now) (a .room .now) (a .start) (at-loop .loop .inv) _
-    (after-block-of .block-of .ensures) (start .pre .4) _ (in-loop .loop-test .left) (after-end .end .ensures)
+    (after-block-of .block-of .ensures) (start .pre .3) _ (in-loop .loop-test .left) (after-end .end .ensures)
 
 pub body-spec : {M : Type 1} → statement M
 body-spec =

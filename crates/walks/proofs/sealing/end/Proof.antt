@@ -7,7 +7,7 @@ use Rattle.ciphers.proofs.Laws.{block-most}
 use Rattle.modes.specs.Blocks.{full}
 use Rattle.ciphers.specs.Ciphers.{blockOf}
 use Rattle.walks.proofs.Places.{loaded}
-use Rattle.walks.proofs.Sealed.{end-is, end-long}
+use Rattle.walks.proofs.Sealed.{seal-ended}
 use borrow.Author.Needs.{needs}
 use Rattle.walks.proofs.sealing.end.Statement.{statement}
 use Rattle.walks.proofs.sealing.end.Tie as tie
@@ -30,7 +30,7 @@ store-requires c κs =
     let start = after-block-of .before .before .before .before in (
       omega (arith, after-block-of .block-of .ensures, block-most (start .args .c)),
       omega
-          (arith, after-block-of .block-of .ensures, start .pre .3),
+          (arith, after-block-of .block-of .ensures, start .pre .2),
     )
 
 sub-store : tie.Need-sub-store
@@ -45,7 +45,7 @@ part-store-end c = search needs
 store-requires-2 : tie.Need-store-requires-2
 store-requires-2 c κs =
     let start = c .before .before .before .before .before .before .before .before .before .before .before .before .before .before in
-    (omega (arith, start .pre .2, block-most (start .args .c)), simp (length-take, length-drop) (omega arith))
+    (omega (arith, start .pre .1, block-most (start .args .c)), simp (length-take, length-drop) (omega arith))
 
 same-length : tie.Need-same-length
 same-length c = search needs
@@ -62,13 +62,9 @@ returns c =
     let a = start .args in
     let e = after-block-of .block-of .ensures in
     let f = after-is-full .is-full .ensures ∙ ap (λ (m : ℕ). full m (length (a .part .now))) e in
-    let l = loaded _ (blockOf (a .c)) _ (a .part .now) e (after-load .load .ensures) in (
-      end-is (a .c) (a .k) (a .key) (a .nonce .now) _ _ (a .s) (a .part .now) _ _ _ _ _ _ e f l (after-seal-last .seal-last .ensures)
-          (start .pre .2) (start .pre .3) (after-store .store .ensures) (after-store2 .store2 .ensures),
-      end-long (a .c) (a .k) (a .key)
-          (a .nonce .now) _ _ (a .s) (a .part .now) _ _ _ _ _ _ e f l (after-seal-last .seal-last .ensures) (start .pre .2)
-          (start .pre .3) (after-store .store .ensures) (after-store2 .store2 .ensures),
-    )
+    let l = loaded _ (blockOf (a .c)) _ (a .part .now) e (after-load .load .ensures) in
+    seal-ended (a .c) (a .k) (a .key) (a .nonce .now) _ _ (a .s) (a .part .now) _ _ _ _ _ _ e f l (after-seal-last .seal-last .ensures)
+    (start .pre .1) (start .pre .2) (after-store .store .ensures) (after-store2 .store2 .ensures)
 
 pub end-spec : {M : Type 1} → statement M
 end-spec =

@@ -1,7 +1,6 @@
 -- `walks::sealing::turn` meets its contract: `turned` of what the callees ensure. Assumes nothing.
 use native.Mathlib.Omega.{arith}
 use Rattle.ciphers.proofs.Laws.{block-most}
-use Rattle.steps.specs.Modes.{modeOf}
 use Rattle.walks.proofs.Turned.{turned}
 use borrow.Author.Needs.{needs}
 use Rattle.walks.proofs.sealing.turn.Statement.{statement}
@@ -22,7 +21,7 @@ store-requires c κs =
     let start = after-block-of .before .before .before .before in (
       omega (arith, after-block-of .block-of .ensures, block-most (start .args .c)),
       omega
-          (arith, after-block-of .block-of .ensures, start .pre .3),
+          (arith, after-block-of .block-of .ensures, start .pre .2),
     )
 
 same-length : tie.Need-same-length
@@ -36,9 +35,8 @@ returns c =
     let after-block-of = after-load .before in
     let start = after-block-of .before .before .before .before in
     let a = start .args in
-    let M = modeOf (a .k) (a .c) (a .key) (a .nonce .now) in
-    turned (a .k) (a .c) (M .out) (M .next) (a .s) (a .part .now) (a .rest .now) _ _ _ _ _ (after-block-of .block-of .ensures)
-    (after-load .load .ensures) (after-step .seal-block .ensures) (after-store .store .ensures) (start .pre .2)
+    turned (a .c) (a .part .now) (a .rest .now) (after-block-of .block-of .ensures) (after-load .load .ensures)
+    (after-step .seal-block .ensures) (after-store .store .ensures) (start .pre .1)
 
 pub turn-spec : {M : Type 1} → statement M
 turn-spec =
