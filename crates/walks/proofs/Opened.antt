@@ -1,6 +1,6 @@
 -- Opening a run, from what the callees ensure.
 --     judged-yes, judged-no   the test at its end: its two returns
---     ended                   the last block, and the bytes behind it
+--     open-ended              the last block, and the bytes behind it
 --     OpenGoing               the loop's invariant: how it begins, what a turn and the end require, and what they do to it
 -- Assumes nothing.
 use mathlib.Core.Path.{_≡_, refl, sym, ap, ap₂, _∙_, subst⁻¹}
@@ -117,8 +117,8 @@ module _ (c : Cipher) (k : Kind) (key nonce : List ℕ) (s : State) (part rest�
         put = record { said = er; long = length-take-le r first (omega (arith, p .first-long, block-most c)) };
       })
 
-  pub ended : (m : ℕ) (f : Bool) (x first second : List ℕ) (is : Bool) (rest : List ℕ) → m ≡ n → Ends f x first second is rest m
-  ended m f x first second is rest em = subst⁻¹ (Ends f x first second is rest) em (ended-at f x first second is rest)
+  pub open-ended : (m : ℕ) (f : Bool) (x first second : List ℕ) (is : Bool) (rest : List ℕ) → m ≡ n → Ends f x first second is rest m
+  open-ended m f x first second is rest em = subst⁻¹ (Ends f x first second is rest) em (ended-at f x first second is rest)
 
 -- ---- the loop
 
@@ -154,11 +154,8 @@ module _ (c : Cipher) (k : Kind) (key nonce run : List ℕ) (start : State) (roo
     abbrev part : List ℕ
     part = lent at run
 
-    abbrev left : List ℕ
-    left = lent at room
-
     more : (s′ : State) (ys : List ℕ) → at + size + size < length run → length run ≤ length room₀ + size
-        → OpenTurned c k key nonce s part left s′ ys → OpenGoing s′ (at + size) (after at room ys)
+        → OpenTurned c k key nonce s part (lent at room) s′ ys → OpenGoing s′ (at + size) (after at room ys)
     more s′ ys h f t =
         going-more g t (block-some c) (omega arith) (omega arith)
         (λ done o.
@@ -169,7 +166,7 @@ module _ (c : Cipher) (k : Kind) (key nonce run : List ℕ) (start : State) (roo
     module _ (m : ℕ) (em : m ≡ size) (w : Walkable c k nonce run) (may : Openable size run room₀) where
       -- what a turn requires, and what it does
       module _ (h : m < length run - m - at) where
-        pub turn-may : Ready c k nonce s × (size ≤ length part) × (size ≤ length left)
+        pub turn-may : Ready c k nonce s × (size ≤ length part) × (size ≤ length (lent at room))
         turn-may =
             let i = g .inside in
             let o = g .writing .wrote .long in
@@ -177,13 +174,13 @@ module _ (c : Cipher) (k : Kind) (key nonce run : List ℕ) (start : State) (roo
             let q = lent-long at room in
             (ready-at w at (g .number) (omega arith), omega arith, omega arith)
 
-        pub opening-more : (s′ : State) (ys : List ℕ) → OpenTurned c k key nonce s part left s′ ys → OpenGoing s′ (at + m) (after at room ys)
+        pub opening-more : (s′ : State) (ys : List ℕ) → OpenTurned c k key nonce s part (lent at room) s′ ys → OpenGoing s′ (at + m) (after at room ys)
         opening-more s′ ys t =
             subst⁻¹ (λ (j : ℕ). OpenGoing s′ (at + j) (after at room ys)) em (more s′ ys (omega (arith, h, em)) (may .fits) t)
 
       -- what the end requires, and what it comes to
       module _ (h : length run - m - at ≤ m) where
-        pub end-may : Ready c k nonce s × Openable size part left × (length part ≤ size + size)
+        pub end-may : Ready c k nonce s × Openable size part (lent at room) × (length part ≤ size + size)
         end-may =
             let i = g .inside in
             let o = g .writing .wrote .long in
@@ -196,7 +193,7 @@ module _ (c : Cipher) (k : Kind) (key nonce run : List ℕ) (start : State) (roo
             ap (λ (t : List ℕ). before done (openLast size mode here t)) (part-rest at run)
             ∙ open-end size mode (block-some c) here run at done all o (omega arith)
 
-        pub opening-end : (is : Bool) (ys : List ℕ) → OpenEnded c k key nonce s part left is ys
+        pub opening-end : (is : Bool) (ys : List ℕ) → OpenEnded c k key nonce s part (lent at room) is ys
             → RunOpened c k key nonce start run room₀ is (after at room ys)
         opening-end is ys e =
             let i = g .inside in

@@ -1,7 +1,7 @@
 -- `walks::opening::end` meets its contract: by what the step ensures of the last block, and the test. Assumes nothing.
 use native.Mathlib.Omega.{arith}
 use Rattle.ciphers.proofs.Laws.{block-most}
-use Rattle.walks.proofs.Opened.{ended}
+use Rattle.walks.proofs.Opened.{open-ended}
 use borrow.Author.Needs.{needs}
 use Rattle.walks.proofs.opening.end.Statement.{statement}
 use Rattle.walks.proofs.opening.end.Tie as tie
@@ -53,7 +53,7 @@ returns c =
     let n = f .before in
     let st = n .before .before .before .before in
     let a = st .args in
-    ended (a .c) (a .k) (a .key) (a .nonce .now) (a .s) (a .part .now) (a .rest .now) (n .block-of .result) (f .is-full .result)
+    open-ended (a .c) (a .k) (a .key) (a .nonce .now) (a .s) (a .part .now) (a .rest .now) (n .block-of .result) (f .is-full .result)
     (o .before .load .result) (o .open-last .result .first) (o .open-last .result .second) (c .judge .result) (w .store .last .0)
     (n .block-of .ensures) (f .is-full .ensures) (o .before .load .ensures) (o .open-last .ensures) (w .store .ensures)
     (c .judge .ensures)
