@@ -9,6 +9,7 @@
 pub mod blocks;
 pub mod calls;
 pub mod cells;
+pub mod entries;
 pub mod forged;
 pub mod forkskinny;
 pub mod jobs;
