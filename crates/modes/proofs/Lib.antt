@@ -2,6 +2,7 @@ pub mod Bytes
 pub mod Ends
 pub mod Exact
 pub mod PaefLaws
+pub mod PaefOnly
 pub mod PaefTweaks
 pub mod Rest
 pub mod SaefLaws

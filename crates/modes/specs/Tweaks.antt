@@ -1,5 +1,5 @@
--- The tweaks under which PAEF works the blocks of a record (001, figure 5), block by block along the walks that define the run.
--- Assumes nothing.
+-- The tweaks under which PAEF works the blocks of a record (001, figure 5), block by block along the walks that define the run. That these
+-- are all is `paef-only` in proofs/PaefOnly.antt. Assumes nothing.
 use mathlib.Core.Path.{_≡_}
 use Prim.Native.Nat.{ℕ, zero, suc, _<_}
 use mathlib.Core.Bool.{Bool, not, _&&_, cond}

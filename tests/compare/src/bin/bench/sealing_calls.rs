@@ -1,7 +1,7 @@
 //! How long sealing and opening take, under one header.
 
 use crate::rival;
-use crate::side::{quickest, Side, Times};
+use crate::side::{over_passes, quickest, Side, Times};
 use compare::auraski::{self, opaque};
 use compare::schemes::{Scheme, SCHEMES};
 use compare::sealing::{self, Answer};
@@ -48,12 +48,16 @@ impl Kind {
     pub fn is_longest(&self) -> bool {
         self.body == self.scheme.most_bytes()
     }
+
+    /// Of a batch: fewer for long bodies, so that batches are short.
+    pub fn calls(&self) -> u32 {
+        (4096 / self.body.max(1)).clamp(1, 100) as u32
+    }
 }
 
-/// What was measured of one kind, in batches of so many calls.
+/// What was measured of one kind.
 pub struct Figure {
     pub kind: Kind,
-    pub calls: u32,
     pub times: Times,
 }
 
@@ -117,14 +121,8 @@ impl Work {
     }
 }
 
-/// Fewer calls for long bodies, so that batches are short.
-fn calls_for(body: usize) -> u32 {
-    (4096 / body.max(1)).clamp(1, 100) as u32
-}
-
 /// Times one kind of call, of which all sides leave the same room.
-pub fn measure(kind: Kind) -> Figure {
-    let calls = calls_for(kind.body);
+fn measure(kind: Kind) -> Times {
     let mut work = Work::new(kind);
     let rooms = Side::ALL.map(|side| {
         work.room.fill(0);
@@ -134,8 +132,17 @@ pub fn measure(kind: Kind) -> Figure {
         rooms.iter().all(|room| *room == rooms[0]),
         "the sides do not agree: {kind:?}"
     );
-    let times = quickest(calls, |side| work.run(side, calls));
-    Figure { kind, calls, times }
+    quickest(kind.calls(), |side| work.run(side, kind.calls()))
+}
+
+/// Of every kind of call.
+pub fn figures() -> Vec<Figure> {
+    let kinds = kinds();
+    let all = over_passes(&kinds, measure);
+    let together = kinds.into_iter().zip(all);
+    together
+        .map(|(kind, times)| Figure { kind, times })
+        .collect()
 }
 
 /// No body, the shortest, its doubles, and the longest that the scheme takes.
@@ -147,7 +154,7 @@ fn bodies_of(scheme: &Scheme) -> Vec<usize> {
 }
 
 /// Every kind of call.
-pub fn kinds() -> Vec<Kind> {
+fn kinds() -> Vec<Kind> {
     let mut kinds = Vec::new();
     for (number, scheme) in (1..).zip(&SCHEMES) {
         for direction in Direction::BOTH {

@@ -2,11 +2,16 @@
 
 use std::time::{Duration, Instant};
 
-/// Batches of each side at most, of one kind of call.
-const MOST_BATCHES: usize = 500;
+/// How often all kinds of calls are gone through. A machine may do something
+/// else for a second or two; then some kinds lose a pass, and none loses all.
+const PASSES: usize = 5;
 
-/// No kind of call is timed for longer, however many batches are left.
-const ENOUGH: Duration = Duration::from_secs(1);
+/// Batches of each side at most, of one kind of call in one pass.
+const MOST_BATCHES: usize = 100;
+
+/// No kind of call is timed for longer in one pass, however many batches are
+/// left.
+const ENOUGH: Duration = Duration::from_millis(200);
 
 /// The library, the rival in C (tests/rival) and the second program.
 #[derive(Clone, Copy, PartialEq, Debug)]
@@ -45,6 +50,15 @@ impl Times {
         self.quickest[side as usize]
     }
 
+    /// With what another pass found.
+    fn and(mut self, other: &Times) -> Times {
+        for (least, found) in self.quickest.iter_mut().zip(other.quickest) {
+            *least = least.min(found);
+        }
+        self.batches += other.batches;
+        self
+    }
+
     /// Above 1 where ours is quicker.
     pub fn ratio(&self, side: Side) -> f64 {
         self.of(side) / self.of(Side::Ours)
@@ -76,4 +90,18 @@ pub fn quickest(calls: u32, mut run: impl FnMut(Side) -> u32) -> Times {
         times.batches += 1;
     }
     times
+}
+
+/// The times of each kind, over all passes.
+pub fn over_passes<K: Copy>(kinds: &[K], measure: impl Fn(K) -> Times) -> Vec<Times> {
+    let pass = || -> Vec<Times> { kinds.iter().map(|kind| measure(*kind)).collect() };
+    let first = pass();
+    (1..PASSES).fold(first, |found, _| {
+        let times = pass();
+        found
+            .into_iter()
+            .zip(&times)
+            .map(|(one, other)| one.and(other))
+            .collect()
+    })
 }

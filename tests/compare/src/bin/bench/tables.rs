@@ -1,8 +1,8 @@
-//! The tables of what was measured, each line printed when it is.
+//! The tables of what was measured.
 
 use crate::block_calls;
 use crate::sealing_calls::{self, Figure, HEADER};
-use crate::side::{Side, Times};
+use crate::side::{over_passes, Side, Times};
 
 /// Bodies of the table of sealing and opening, beside the longest.
 const BODIES: [usize; 4] = [0, 16, 32, 1024];
@@ -26,8 +26,9 @@ pub fn print_block_calls() {
     println!();
     println!("| cipher  | call                    | batches | {SIDES}");
     println!("|:--------|:------------------------|--------:|-{RULES}");
-    for kind in block_calls::kinds() {
-        let times = block_calls::measure(kind);
+    let kinds = block_calls::kinds();
+    let all = over_passes(&kinds, block_calls::measure);
+    for (kind, times) in kinds.iter().zip(all) {
         let (cipher, name, batches) = (kind.cipher_name(), kind.name(), times.batches);
         println!("| {cipher:7} | {name:23} | {batches:7} | {}", sides(&times));
     }
@@ -42,20 +43,18 @@ pub fn print_sealing() -> Vec<Figure> {
     println!();
     println!("| scheme | call |   body | batches | calls | ours/byte | {SIDES}");
     println!("|-------:|:-----|-------:|--------:|------:|----------:|-{RULES}");
-    sealing_calls::kinds()
-        .into_iter()
-        .map(sealing_calls::measure)
-        .inspect(print_figure)
-        .collect()
+    let figures = sealing_calls::figures();
+    figures.iter().for_each(print_figure);
+    figures
 }
 
 fn print_figure(figure: &Figure) {
-    let Figure { kind, calls, times } = figure;
+    let Figure { kind, times } = figure;
     if !BODIES.contains(&kind.body) && !kind.is_longest() {
         return;
     }
     let (number, direction) = (kind.number, kind.direction.name());
-    let (body, batches) = (kind.body, times.batches);
+    let (body, batches, calls) = (kind.body, times.batches, kind.calls());
     let byte = match body {
         0 => "-".to_string(),
         _ => format!("{:.2}", times.of(Side::Ours) / body as f64),
