@@ -1,5 +1,6 @@
 -- The block calls meet the correctness condition of a forkcipher (the Forkcipher paper, 3.1, conditions 1 to 4), each cipher by
--- its number; what they take and what they refuse; and a contract leaves a caller one result. Assumes nothing.
+-- its number; what they take and what they refuse, what they read and what they leave; and a contract leaves a caller one result.
+-- Assumes nothing.
 use mathlib.Core.Path.{_≡_, refl, sym, ap, _∙_}
 use mathlib.Core.Bool.{Bool, true, false, cond}
 use mathlib.Core.List.{List}
@@ -16,7 +17,8 @@ use Rattle.forkskinny.specs.declared.Forked.{Forked}
 use Rattle.forkskinny.specs.declared.Unforked.{Unforked}
 use Rattle.forkskinny.specs.ForkSkinny.{half, input, other, otherOf}
 use Rattle.forkskinny.specs.Calls.{zeros, given, wants, numberOf, forkRefused, forkBy, forkOf, unforkRefused, unforkBy, unforkOf}
-use Rattle.forkskinny.proofs.Forkcipher.{input-half, other-half, half-input, half-behind, input-behind, other-behind, half-front, input-front, other-front}
+use Rattle.forkskinny.proofs.Forkcipher.{input-half, other-half, half-input}
+use Rattle.forkskinny.proofs.Forkcipher.{half-behind, input-behind, other-behind, half-front, input-front, other-front}
 
 -- ---- the calls as the paper writes them, for a cipher c and a half h
 
@@ -112,12 +114,22 @@ module _ (c : Cipher) (key tweak : List ℕ) where
   pub fork-front : (m : List ℕ) (want : ℕ) → want < 3
       → forkOf (numberOf c) key (take (blockOf c) tweak) (take (blockOf c) m) want ≡ forkOf (numberOf c) key tweak m want
   fork-front m want p =
-      rw (forks c key (take (blockOf c) tweak) (take (blockOf c) m) want p, forks c key tweak m want p, half-front c key tweak 0 m, half-front c key tweak 1 m)
+      rw (
+        forks c key (take (blockOf c) tweak) (take (blockOf c) m) want p,
+        forks c key tweak m want p,
+        half-front c key tweak 0 m,
+        half-front c key tweak 1 m,
+      )
 
   pub unfork-front : (x : List ℕ) (h want : ℕ) → h < 2 → want < 3
       → unforkOf (numberOf c) key (take (blockOf c) tweak) (take (blockOf c) x) h want ≡ unforkOf (numberOf c) key tweak x h want
   unfork-front x h want p q =
-      rw (unforks c key (take (blockOf c) tweak) (take (blockOf c) x) h want p q, unforks c key tweak x h want p q, input-front c key tweak h x, other-front c key tweak h x)
+      rw (
+        unforks c key (take (blockOf c) tweak) (take (blockOf c) x) h want p q,
+        unforks c key tweak x h want p q,
+        input-front c key tweak h x,
+        other-front c key tweak h x,
+      )
 
   pub fork-unasked : (m : List ℕ) → ((forkOf (numberOf c) key tweak m 0) .half1 ≡ zeros) × ((forkOf (numberOf c) key tweak m 1) .half0 ≡ zeros)
   unfolding wants

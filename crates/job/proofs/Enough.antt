@@ -1,13 +1,13 @@
 -- A room of 16,384 bytes is enough for every job, and no section of a job is above a scheme's limits: 3 and 5 are never answered.
 -- Assumes nothing.
 use mathlib.Core.Path.{_≡_, refl, _∙_}
-use mathlib.Core.Bool.{Bool, true, false, not}
+use mathlib.Core.Bool.{Bool, false, not}
 use mathlib.Core.List.{List}
 use Prim.Native.Nat.{ℕ, zero, suc, _+_, _-_, _≤_, _<_}
 use native.Mathlib.Omega.{arith}
 use borrow.Author.Tests.{eqb-true, eqb-false, ltb-true, not-false}
 use lib.Dec.{eqb, ltb}
-use lib.ListN.{length, drop, getD, length-drop}
+use lib.ListN.{length, getD, length-drop}
 use Rattle.ciphers.specs.Ciphers.{blockOf}
 use Rattle.ciphers.proofs.Laws.{block-most}
 use Rattle.sealing.specs.declared.schemes.Scheme.{Scheme}

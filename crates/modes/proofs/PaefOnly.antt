@@ -10,9 +10,9 @@ use mathlib.Core.Bool.{Bool, true, false, not, _&&_, cond}
 use mathlib.Core.List.{List, [], _∷_, _++_}
 use lib.ListN.{length, take, drop, getD, length-append, List·getD-append}
 use lib.Seq.{getD-append-add}
-use Rattle.modes.specs.Blocks.{beforeLast, full, none, pad, _⊕_}
+use Rattle.modes.specs.Blocks.{beforeLast, none, pad, _⊕_}
 use Rattle.modes.specs.Forkcipher.{Fork}
-use Rattle.modes.specs.Mode.{Mode, join, walkFrom, walk, headed, sealLast, sealFrom, sealRest, sealRun}
+use Rattle.modes.specs.Mode.{join, walkFrom, walk, headed, sealLast, sealFrom, sealRest, sealRun}
 use Rattle.modes.specs.Paef.{Sum, paefTweak, paefHead, paefBody, sumTweak, sumHalf, headSum, paef}
 use Rattle.modes.specs.Tweaks.{alongFrom, along, headTweaks, bodyTweaks, paefTweaks}
 
@@ -54,16 +54,21 @@ module _ (n : ℕ) (F G : Fork) (nonce : List ℕ) where
       ∙ ap (λ (y : List ℕ). walkFrom n (paef n G nonce) m noM (record { sum = s .sum ⊕ y; number = s .number + 1 }) (drop n a))
       (agree-first e 0 (take n a))
 
-  headed-only : (noM : Bool) (a : List ℕ) → Agree F G (headTweaks n F nonce noM a) → headed n (paef n F nonce) noM a ≡ headed n (paef n G nonce) noM a
+  headed-only : (noM : Bool) (a : List ℕ) → Agree F G (headTweaks n F nonce noM a)
+      → headed n (paef n F nonce) noM a ≡ headed n (paef n G nonce) noM a
   unfolding headTweaks along headed walk sumTweak paef
   headed-only noM a e = go (not noM && none (length a)) e
     where
-      go : (b : Bool)
-          → Agree F G (cond b [] (alongFrom n (paef n F nonce .head) (T 0) (λ f. T (paefHead f)) (beforeLast n (length a)) (paef n F nonce .start) a))
-          → cond b (paef n F nonce .start) (walkFrom n (paef n F nonce) (beforeLast n (length a)) noM (paef n F nonce .start) a)
-          ≡ cond b (paef n G nonce .start) (walkFrom n (paef n G nonce) (beforeLast n (length a)) noM (paef n G nonce .start) a)
+      m : ℕ
+      m = beforeLast n (length a)
+
+      start : Sum
+      start = paef n F nonce .start
+
+      go : (b : Bool) → Agree F G (cond b [] (alongFrom n (paef n F nonce .head) (T 0) (λ f. T (paefHead f)) m start a))
+          → cond b start (walkFrom n (paef n F nonce) m noM start a) ≡ cond b start (walkFrom n (paef n G nonce) m noM start a)
       go true d = refl
-      go false d = walk-only (beforeLast n (length a)) noM (paef n F nonce .start) a d
+      go false d = walk-only m noM start a d
 
   -- ---- the body
 
@@ -76,7 +81,8 @@ module _ (n : ℕ) (F G : Fork) (nonce : List ℕ) where
       let x = take n b in
       let rest = seal-only m _ (drop n b) (agree-rest e) in
       (λ i. agree-first e 0 x i ++ rest i)
-      ∙ ap (λ (y : List ℕ). G .half 0 (T 4 s) x ++ sealFrom n (paef n G nonce) m (record { sum = s .sum ⊕ y; number = s .number + 1 }) (drop n b))
+      ∙ ap (λ (y : List ℕ). G .half 0 (T 4 s) x
+      ++ sealFrom n (paef n G nonce) m (record { sum = s .sum ⊕ y; number = s .number + 1 }) (drop n b))
       (agree-first e 1 x)
 
   -- ---- a record
@@ -92,7 +98,9 @@ module _ (n : ℕ) (F G : Fork) (nonce : List ℕ) where
           ≡ cond noM (paef n G nonce .alone (headed n (paef n G nonce) noM header))
           (sealFrom n (paef n G nonce) (beforeLast n (length body)) (headed n (paef n G nonce) noM header) body)
       go true d =
-          ap (λ (s : Sum). s .sum) (headed-only true header (agree-left (headTweaks n F nonce true header) (bodyTweaks n F nonce true header body) d))
+          let H = headTweaks n F nonce true header in
+          let B = bodyTweaks n F nonce true header body in
+          ap (λ (s : Sum). s .sum) (headed-only true header (agree-left H B d))
       go false d =
           let H = headTweaks n F nonce false header in
           let B = bodyTweaks n F nonce false header body in

@@ -26,13 +26,16 @@ use Rattle.modes.proofs.Rest.{before-last-none}
 same-bytes : (v w : ℕ) → v < 65536 → w < 65536 → v / 256 % 256 ≡ w / 256 % 256 → v % 256 ≡ w % 256 → v ≡ w
 same-bytes v w hv hw high low = omega arith
 
-same-tweak : (nonce : List ℕ) (f g i j : ℕ) → f ≤ 7 → g ≤ 7 → i ≤ 8191 → j ≤ 8191 → paefTweak nonce f i ≡ paefTweak nonce g j → (f ≡ g) × (i ≡ j)
+same-tweak : (nonce : List ℕ) (f g i j : ℕ) → f ≤ 7 → g ≤ 7 → i ≤ 8191 → j ≤ 8191 → paefTweak nonce f i ≡ paefTweak nonce g j
+    → (f ≡ g) × (i ≡ j)
 unfolding paefTweak be16
 same-tweak nonce f g i j hf hg hi hj e =
-    let tail : be16 (f * 8192 + i) ≡ be16 (g * 8192 + j)
-    = sym (drop-at nonce (be16 (f * 8192 + i)) (length nonce) refl) ∙ ap (drop (length nonce)) e ∙ drop-at nonce (be16 (g * 8192 + j)) (length nonce) refl in
-    let v : f * 8192 + i ≡ g * 8192 + j
-    = same-bytes (f * 8192 + i) (g * 8192 + j) (omega arith) (omega arith) (ap (λ (l : List ℕ). getD l 0 0) tail) (ap (λ (l : List ℕ). getD l 1 0) tail) in
+    let v = f * 8192 + i in
+    let w = g * 8192 + j in
+    let l = length nonce in
+    let tail : be16 v ≡ be16 w = sym (drop-at nonce (be16 v) l refl) ∙ ap (drop l) e ∙ drop-at nonce (be16 w) l refl in
+    let same : f * 8192 + i ≡ g * 8192 + j
+    = same-bytes v w (omega arith) (omega arith) (ap (λ (b : List ℕ). getD b 0 0) tail) (ap (λ (b : List ℕ). getD b 1 0) tail) in
     (omega arith, omega arith)
 
 -- ---- tweaks in a row

@@ -8,7 +8,7 @@ use lib.ListN.{length, take, drop, getD}
 use Rattle.modes.specs.Blocks.{beforeLast, full, none}
 use Rattle.modes.specs.Forkcipher.{Fork}
 use Rattle.modes.specs.Mode.{headed}
-use Rattle.modes.specs.Paef.{Sum, sumTweak, paefHead, paefBody, paef}
+use Rattle.modes.specs.Paef.{sumTweak, paefHead, paefBody, paef}
 
 -- an entry for each block of a string, made of the state in which it is worked: `more` for one that is not the last, `last` for the
 -- last, full or not. `step` is the state after a block.

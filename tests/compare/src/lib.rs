@@ -15,6 +15,7 @@ pub mod forkskinny;
 pub mod jobs;
 pub mod paef;
 pub mod random;
+pub mod records;
 pub mod rounds;
 pub mod saef;
 pub mod schemes;

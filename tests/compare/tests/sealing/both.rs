@@ -1,34 +1,11 @@
 //! One call made by the library and by the second program, and compared.
 
-use compare::random::Random;
-use compare::schemes::Scheme;
+use compare::records::{row_of, Call, Direction};
 use compare::sealing::{Answer, DONE, NOT_AUTHENTIC};
 use compare::{auraski, sealing};
 
 /// Bytes behind the room that are not lent and must stay.
 const GUARD: usize = 16;
-
-/// Bytes of room behind an output, where a test asks for no other room.
-pub const SPARE: usize = 3;
-
-#[derive(Clone, Copy, PartialEq, Eq, Debug)]
-pub enum Direction {
-    Seal,
-    Open,
-}
-
-/// The arguments of a call. The text is a body or a sealed run; of the room
-/// only the length is told.
-#[derive(Clone)]
-pub struct Call {
-    pub direction: Direction,
-    pub scheme: u32,
-    pub key: Vec<u8>,
-    pub nonce: Vec<u8>,
-    pub header: Vec<u8>,
-    pub text: Vec<u8>,
-    pub room: usize,
-}
 
 /// What both sides answered: the number, and the room's front part of the
 /// length told.
@@ -44,78 +21,31 @@ pub struct Tally {
     opens: [usize; 7],
 }
 
-pub fn row_of(scheme: u32) -> &'static Scheme {
-    Scheme::find(scheme).expect("a scheme of the table")
+/// What document 01's table says of the room, all but the output itself.
+fn fits_the_table(call: &Call, answer: Answer, before: &[u8], after: &[u8]) -> bool {
+    let written = match answer.number {
+        DONE => answer.length,
+        NOT_AUTHENTIC => call.text.len() - row_of(call.scheme).block_bytes,
+        _ => 0,
+    };
+    let is_cleared = || after[..written].iter().all(|byte| *byte == 0);
+    before[written..] == after[written..]
+        && (answer.number == DONE || answer.length == 0)
+        && (answer.number != NOT_AUTHENTIC || is_cleared())
 }
 
-impl Call {
-    /// A seal with nothing wrong, and with room to spare.
-    pub fn random(random: &mut Random, scheme: u32, header: usize, body: usize) -> Call {
-        Call {
-            direction: Direction::Seal,
-            scheme,
-            key: random.bytes(16),
-            nonce: random.bytes(row_of(scheme).nonce_bytes),
-            header: random.bytes(header),
-            text: random.bytes(body),
-            room: body + row_of(scheme).block_bytes + SPARE,
-        }
-    }
-
-    /// The open of a run under the same key, nonce and header.
-    pub fn opening(&self, run: &[u8]) -> Call {
-        Call {
-            direction: Direction::Open,
-            text: run.to_vec(),
-            room: run.len().saturating_sub(row_of(self.scheme).block_bytes) + SPARE,
-            ..self.clone()
-        }
-    }
-
-    fn make(&self, [seal, open]: [Side; 2], room: &mut [u8]) -> Answer {
-        let function = match self.direction {
-            Direction::Seal => seal,
-            Direction::Open => open,
-        };
-        function(
-            self.scheme,
-            &self.key,
-            &self.nonce,
-            &self.header,
-            &self.text,
-            &mut room[..self.room],
-        )
-    }
-
-    /// What document 01's table says of the room, all but the output itself.
-    fn fits_the_table(&self, answer: Answer, before: &[u8], after: &[u8]) -> bool {
-        let written = match answer.number {
-            DONE => answer.length,
-            NOT_AUTHENTIC => self.text.len() - row_of(self.scheme).block_bytes,
-            _ => 0,
-        };
-        let is_cleared = || after[..written].iter().all(|byte| *byte == 0);
-        before[written..] == after[written..]
-            && (answer.number == DONE || answer.length == 0)
-            && (answer.number != NOT_AUTHENTIC || is_cleared())
-    }
-
-    fn description(&self) -> String {
-        format!(
-            "{:?} under scheme {}: key of {} bytes, nonce {}, header {}, text {}, room {}",
-            self.direction,
-            self.scheme,
-            self.key.len(),
-            self.nonce.len(),
-            self.header.len(),
-            self.text.len(),
-            self.room
-        )
-    }
+fn description(call: &Call) -> String {
+    format!(
+        "{:?} under scheme {}: key of {} bytes, nonce {}, header {}, text {}, room {}",
+        call.direction,
+        call.scheme,
+        call.key.len(),
+        call.nonce.len(),
+        call.header.len(),
+        call.text.len(),
+        call.room
+    )
 }
-
-/// Seal or open, of the library or of the second program.
-type Side = fn(u32, &[u8], &[u8], &[u8], &[u8], &mut [u8]) -> Answer;
 
 impl Tally {
     /// What a room and its guard hold before a call: no zero, and not the
@@ -132,14 +62,14 @@ impl Tally {
         let (mut ours, mut second) = (before.clone(), before.clone());
         let answer = call.make([auraski::seal, auraski::open], &mut ours);
         let expected = call.make([sealing::seal, sealing::open], &mut second);
-        assert_eq!(answer, expected, "{}", call.description());
+        assert_eq!(answer, expected, "{}", description(call));
         if let Some(place) = (0..before.len()).find(|place| ours[*place] != second[*place]) {
-            panic!("byte {} of the room: {}", place, call.description());
+            panic!("byte {} of the room: {}", place, description(call));
         }
         assert!(
-            call.fits_the_table(answer, &before, &ours),
+            fits_the_table(call, answer, &before, &ours),
             "{}",
-            call.description()
+            description(call)
         );
         self.count(call.direction, answer.number);
         let output = sealing::view(answer.number, answer.length, &ours).to_vec();
@@ -152,7 +82,7 @@ impl Tally {
     /// Compares, and asserts the number besides; gives the output.
     pub fn expect(&mut self, call: &Call, number: u32) -> Vec<u8> {
         let outcome = self.compare(call);
-        assert_eq!(outcome.number, number, "{}", call.description());
+        assert_eq!(outcome.number, number, "{}", description(call));
         outcome.output
     }
 

@@ -1,11 +1,12 @@
 //! Runs that were changed, cut or lengthened, and good runs under another
 //! header, nonce or key.
 
-use crate::both::{row_of, Call, Tally};
+use crate::both::Tally;
 use crate::SCHEMES;
 use compare::blocks::load_block;
 use compare::forged::{forged_run, LastBlock};
 use compare::random::Random;
+use compare::records::{row_of, Call};
 use compare::schemes::Keyed;
 use compare::sealing::{DONE, NOT_AUTHENTIC, NO_BLOCK};
 
@@ -18,7 +19,7 @@ fn sealed_calls(random: &mut Random, tally: &mut Tally, scheme: u32) -> Vec<(Cal
     let mut calls = Vec::new();
     for header in [0, 1, size - 1, size, size + 1, 2 * size] {
         for body in [0, 1, size - 1, size, size + 1, 2 * size, 3 * size - 1] {
-            let call = Call::random(random, scheme, header, body);
+            let call = Call::drawn(random, scheme, header, body);
             let run = tally.expect(&call, DONE);
             calls.push((call, run));
         }
@@ -161,7 +162,7 @@ fn wrong_paddings_agree() {
         for part in 1..size {
             for (header, blocks) in [(0, 0), (20, 0), (0, 2), (2 * size, 1)] {
                 let body = blocks * size + part;
-                let call = Call::random(&mut random, scheme, header, body);
+                let call = Call::drawn(&mut random, scheme, header, body);
                 compare_paddings(&mut tally, &call);
             }
         }

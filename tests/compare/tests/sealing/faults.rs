@@ -1,9 +1,10 @@
 //! Every fault by itself and every two at once: which one answers (document
 //! 01, "Checks run in this order").
 
-use crate::both::{row_of, Call, Direction, Tally, SPARE};
+use crate::both::Tally;
 use crate::SCHEMES;
 use compare::random::Random;
+use compare::records::{row_of, Call, Direction, SPARE};
 use compare::schemes::Scheme;
 use compare::sealing::{
     DONE, NOT_AUTHENTIC, NO_BLOCK, SHORT_ROOM, TOO_LONG, UNKNOWN_SCHEME, WRONG_LENGTH,
@@ -73,13 +74,6 @@ fn longest_text(call: &Call, row: &Scheme) -> usize {
     }
 }
 
-fn exact_room(call: &Call, row: &Scheme) -> usize {
-    match call.direction {
-        Direction::Seal => call.text.len() + row.block_bytes,
-        Direction::Open => call.text.len().saturating_sub(row.block_bytes),
-    }
-}
-
 /// Damage comes first: once a run is too short there is nothing to damage.
 fn every_fault(row: &Scheme, direction: Direction) -> Vec<Fault> {
     let mut faults = Vec::new();
@@ -103,7 +97,7 @@ fn faulty(good: &Call, faults: &[Fault]) -> Call {
     for fault in faults {
         fault.apply(&mut call, row);
     }
-    let exact = exact_room(&call, row);
+    let exact = call.room_under(row);
     call.room = exact + SPARE;
     for fault in faults {
         if let Fault::Room(missing) = fault {
@@ -139,7 +133,7 @@ fn every_pair_of_faults_agrees() {
     let mut tally = Tally::default();
     for scheme in SCHEMES {
         for body in [1, 40] {
-            let call = Call::random(&mut random, scheme, 20, body);
+            let call = Call::drawn(&mut random, scheme, 20, body);
             let run = tally.expect(&call, DONE);
             compare_pairs(&mut tally, &call);
             compare_pairs(&mut tally, &call.opening(&run));
@@ -154,7 +148,7 @@ fn every_wrong_length_agrees() {
     let mut random = Random::new(112);
     let mut tally = Tally::default();
     for scheme in SCHEMES {
-        let call = Call::random(&mut random, scheme, 20, 40);
+        let call = Call::drawn(&mut random, scheme, 20, 40);
         let run = tally.expect(&call, DONE);
         for good in [call.clone(), call.opening(&run)] {
             for length in (0..=33).filter(|length| *length != 16) {
@@ -175,7 +169,7 @@ fn every_unknown_scheme_agrees() {
     let mut random = Random::new(113);
     let mut tally = Tally::default();
     for scheme in SCHEMES {
-        let call = Call::random(&mut random, scheme, 20, 40);
+        let call = Call::drawn(&mut random, scheme, 20, 40);
         let run = tally.expect(&call, DONE);
         for good in [call.clone(), call.opening(&run)] {
             let near = (0..=300).filter(|number| !SCHEMES.contains(number));

@@ -1,8 +1,9 @@
 //! Every pair of short lengths of header and body.
 
-use crate::both::{row_of, Call, Tally};
+use crate::both::Tally;
 use crate::SCHEMES;
 use compare::random::Random;
+use compare::records::{row_of, Call};
 use compare::sealing::DONE;
 
 /// From nothing to three blocks and one byte, sealed and opened.
@@ -15,7 +16,7 @@ fn every_pair_of_short_lengths_agrees() {
         let longest = 3 * row_of(scheme).block_bytes + 1;
         for header in 0..=longest {
             for body in 0..=longest {
-                let call = Call::random(&mut random, scheme, header, body);
+                let call = Call::drawn(&mut random, scheme, header, body);
                 let run = tally.expect(&call, DONE);
                 let opened = tally.expect(&call.opening(&run), DONE);
                 assert_eq!(opened, call.text);
@@ -38,7 +39,7 @@ fn plain_bytes_agree() {
         for filling in [0x00, 0x80, 0xff] {
             for header in [0, size - 1, size, 2 * size, 2 * size + 1] {
                 for body in [0, size - 1, size, 2 * size, 2 * size + 1] {
-                    let mut call = Call::random(&mut random, scheme, header, body);
+                    let mut call = Call::drawn(&mut random, scheme, header, body);
                     for part in [
                         &mut call.key,
                         &mut call.nonce,

@@ -1,7 +1,8 @@
 //! Both sides of every limit (document 01, "Both sides of the limit").
 
-use crate::both::{row_of, Call, Tally};
+use crate::both::Tally;
 use compare::random::Random;
+use compare::records::{row_of, Call};
 use compare::sealing::{DONE, NOT_AUTHENTIC, TOO_LONG};
 
 const LIMITS: [(u32, usize); 3] = [(1, 65_528), (2, 131_056), (3, 131_056)];
@@ -19,7 +20,7 @@ fn longest_and_longer_headers_agree() {
     let mut tally = Tally::default();
     for (scheme, limit) in LIMITS {
         for body in [0, 5] {
-            let longest = Call::random(&mut random, scheme, limit, body);
+            let longest = Call::drawn(&mut random, scheme, limit, body);
             let run = goes_round(&mut tally, &longest);
             let mut longer = longest.clone();
             longer.header.push(0x80);
@@ -28,10 +29,7 @@ fn longest_and_longer_headers_agree() {
             tally.expect(&longer.opening(&[]), TOO_LONG);
         }
         // The last block short: as many blocks, one byte less.
-        goes_round(
-            &mut tally,
-            &Call::random(&mut random, scheme, limit - 1, 20),
-        );
+        goes_round(&mut tally, &Call::drawn(&mut random, scheme, limit - 1, 20));
     }
     tally.print("limit of the header");
 }
@@ -41,16 +39,16 @@ fn longest_and_longer_bodies_agree() {
     let mut random = Random::new(92);
     let mut tally = Tally::default();
     for (scheme, limit) in LIMITS {
-        let longest = Call::random(&mut random, scheme, 5, limit);
+        let longest = Call::drawn(&mut random, scheme, 5, limit);
         let mut run = goes_round(&mut tally, &longest);
         assert_eq!(run.len(), limit + row_of(scheme).block_bytes);
-        let longer = Call::random(&mut random, scheme, 5, limit + 1);
+        let longer = Call::drawn(&mut random, scheme, 5, limit + 1);
         tally.expect(&longer, TOO_LONG);
         run[limit / 2] ^= 1;
         tally.expect(&longest.opening(&run), NOT_AUTHENTIC);
         run.push(0);
         tally.expect(&longest.opening(&run), TOO_LONG);
-        goes_round(&mut tally, &Call::random(&mut random, scheme, 0, limit - 1));
+        goes_round(&mut tally, &Call::drawn(&mut random, scheme, 0, limit - 1));
     }
     tally.print("limit of the body");
 }
@@ -60,8 +58,8 @@ fn both_at_their_limits_agree() {
     let mut random = Random::new(93);
     let mut tally = Tally::default();
     for (scheme, limit) in LIMITS {
-        goes_round(&mut tally, &Call::random(&mut random, scheme, limit, limit));
-        let longer = Call::random(&mut random, scheme, limit + 1, limit + 1);
+        goes_round(&mut tally, &Call::drawn(&mut random, scheme, limit, limit));
+        let longer = Call::drawn(&mut random, scheme, limit + 1, limit + 1);
         tally.expect(&longer, TOO_LONG);
     }
     tally.print("both limits");

@@ -1,8 +1,9 @@
 //! Random calls, most of them good or nearly so.
 
-use crate::both::{row_of, Call, Tally};
+use crate::both::Tally;
 use crate::SCHEMES;
 use compare::random::Random;
+use compare::records::{row_of, Call};
 use compare::sealing::DONE;
 
 const TIMES_EACH: usize = 400;
@@ -33,7 +34,7 @@ fn random_seals_and_opens_agree() {
     for scheme in SCHEMES {
         for _ in 0..TIMES_EACH {
             let (header, body) = (random.below(LONGEST), random.below(LONGEST));
-            let call = Call::random(&mut random, scheme, header, body);
+            let call = Call::drawn(&mut random, scheme, header, body);
             let run = tally.expect(&call, DONE);
             tally.compare(&nearly_good_opening(&mut random, &call, &run));
         }
@@ -49,7 +50,7 @@ fn random_runs_agree() {
     for scheme in SCHEMES {
         for _ in 0..TIMES_EACH {
             let (header, length) = (random.below(40), random.below(LONGEST));
-            let call = Call::random(&mut random, scheme, header, 0);
+            let call = Call::drawn(&mut random, scheme, header, 0);
             let run = random.bytes(length);
             let outcome = tally.compare(&call.opening(&run));
             assert_ne!(outcome.number, DONE);
@@ -66,7 +67,7 @@ fn runs_under_another_scheme_agree() {
     for sealed_under in SCHEMES {
         for scheme in SCHEMES.into_iter().filter(|other| *other != sealed_under) {
             for body in 0..40 {
-                let call = Call::random(&mut random, sealed_under, 10, body);
+                let call = Call::drawn(&mut random, sealed_under, 10, body);
                 let run = tally.expect(&call, DONE);
                 let mut opening = call.opening(&run);
                 opening.scheme = scheme;

@@ -1,8 +1,9 @@
 //! Rooms of every length from none to some bytes more than the output.
 
-use crate::both::{row_of, Call, Tally, SPARE};
+use crate::both::Tally;
 use crate::SCHEMES;
 use compare::random::Random;
+use compare::records::{row_of, Call, SPARE};
 use compare::sealing::{DONE, NOT_AUTHENTIC, SHORT_ROOM};
 
 /// Compares the call with every such room; `enough` is the answer to an exact
@@ -25,7 +26,7 @@ fn rooms_agree() {
     for scheme in SCHEMES {
         let size = row_of(scheme).block_bytes;
         for body in [0, 1, size - 1, size, size + 1, 2 * size, 3 * size + 1] {
-            let call = Call::random(&mut random, scheme, 20, body);
+            let call = Call::drawn(&mut random, scheme, 20, body);
             let run = tally.expect(&call, DONE);
             compare_rooms(&mut tally, &call, run.len(), DONE);
             let mut opening = call.opening(&run);
@@ -43,7 +44,7 @@ fn long_rooms_agree() {
     let mut random = Random::new(102);
     let mut tally = Tally::default();
     for scheme in SCHEMES {
-        let mut call = Call::random(&mut random, scheme, 20, 33);
+        let mut call = Call::drawn(&mut random, scheme, 20, 33);
         call.room = 5000;
         let run = tally.expect(&call, DONE);
         let mut opening = call.opening(&run);

@@ -2,9 +2,10 @@
 //! timed before.
 
 use crate::block_calls::{answer, Block, Kind};
-use crate::sealing_calls::{call_of, Direction};
+use crate::sealing_calls::call_of;
 use crate::side::Side;
 use compare::random::Random;
+use compare::records::Direction;
 use compare::schemes::{Scheme, SCHEMES};
 use compare::sealing::Answer;
 

@@ -1,8 +1,9 @@
 //! The curves of a panel of the plot: what they go through and how they look.
 
 use crate::block_calls::cipher_name;
-use crate::sealing_calls::{Direction, Figure};
+use crate::sealing_calls::Figure;
 use crate::side::Side;
+use compare::records::Direction;
 use compare::schemes::{Mode, Scheme};
 
 /// How the lines of a scheme look, in any side's colour. The curves of schemes

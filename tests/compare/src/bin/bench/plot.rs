@@ -4,9 +4,10 @@
 use crate::curves::{colour_of, curves_of, line_of, name_of, of_direction, side_name};
 use crate::panel::{draw_axes, draw_curve, draw_ends};
 use crate::scale::{top_for, Scale};
-use crate::sealing_calls::{Direction, Figure, HEADER, SHORTEST};
+use crate::sealing_calls::{Figure, HEADER, SHORTEST};
 use crate::side::Side;
 use crate::svg::{Picture, Place};
+use compare::records::Direction;
 
 const NAME: &str = "Auraski: time to seal and to open, per byte of body";
 const WIDTH: f64 = 960.0;

@@ -3,8 +3,9 @@
 use crate::rival;
 use crate::side::{over_passes, quickest, Side, Times};
 use compare::auraski::{self, opaque};
+use compare::records::{Direction, Sealing};
 use compare::schemes::{Scheme, SCHEMES};
-use compare::sealing::{self, Answer};
+use compare::sealing;
 use std::iter::once;
 
 /// The header of every call.
@@ -12,27 +13,6 @@ pub const HEADER: [u8; 16] = *b"header of a body";
 
 /// The shortest body that is not empty.
 pub const SHORTEST: usize = 16;
-
-#[derive(Clone, Copy, PartialEq, Debug)]
-pub enum Direction {
-    Seal,
-    Open,
-}
-
-impl Direction {
-    pub const BOTH: [Direction; 2] = [Direction::Seal, Direction::Open];
-
-    pub fn name(self) -> &'static str {
-        match self {
-            Direction::Seal => "seal",
-            Direction::Open => "open",
-        }
-    }
-
-    fn find(word: &str) -> Option<Direction> {
-        Direction::BOTH.into_iter().find(|one| one.name() == word)
-    }
-}
 
 /// One kind of call.
 #[derive(Clone, Copy, Debug)]
@@ -61,10 +41,7 @@ pub struct Figure {
     pub times: Times,
 }
 
-/// Seal or open, of any side.
-pub type Call = fn(u32, &[u8], &[u8], &[u8], &[u8], &mut [u8]) -> Answer;
-
-pub fn call_of(side: Side, direction: Direction) -> Call {
+pub fn call_of(side: Side, direction: Direction) -> Sealing {
     match (side, direction) {
         (Side::Ours, Direction::Seal) => auraski::seal,
         (Side::Ours, Direction::Open) => auraski::open,
@@ -100,7 +77,7 @@ impl Work {
         work
     }
 
-    fn call(&mut self, call: Call) -> u32 {
+    fn call(&mut self, call: Sealing) -> u32 {
         let answer = call(
             self.kind.number,
             &self.key,

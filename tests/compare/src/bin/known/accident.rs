@@ -1,8 +1,8 @@
 //! Headers that pad to the same block and are not the same header.
 
 use crate::book::Book;
-use crate::call::{row_of, Call};
 use compare::random::Random;
+use compare::records::{row_of, Call};
 use compare::sealing::{DONE, NOT_AUTHENTIC};
 
 const LIMITS: &[u8; 16] = b"limits 2026    \x80";

@@ -1,8 +1,8 @@
 //! The records one after the other, each made by a call of the side.
 
-use crate::call::{Call, Direction};
 use crate::side::{Block, Side};
 use crate::value::{plain, plain_or_last, plain_or_sum};
+use compare::records::{Call, Direction};
 
 /// What every byte of a room holds before a call.
 const FILLING: u8 = 0xee;
@@ -67,11 +67,11 @@ impl Book {
     /// A record of seal or open. The number that the record is there for has
     /// to come, or what is said of it would be wrong. Gives the output.
     pub fn sealing(&mut self, about: &str, call: &Call, number: u32) -> Vec<u8> {
-        let (name, text_name, function) = match call.direction {
-            Direction::Seal => ("seal", "body", self.side.seal),
-            Direction::Open => ("open", "sealed", self.side.open),
+        let text_name = match call.direction {
+            Direction::Seal => "body",
+            Direction::Open => "sealed",
         };
-        self.begin(name, about);
+        self.begin(call.direction.name(), about);
         let mut room = vec![FILLING; call.room];
         self.field("scheme", &call.scheme.to_string());
         self.field("key", &plain(&call.key));
@@ -79,8 +79,7 @@ impl Book {
         self.field("header", &plain(&call.header));
         self.field(text_name, &plain_or_last(&call.text, &self.last));
         self.field("room", &plain(&room));
-        let (key, nonce, header, text) = (&call.key, &call.nonce, &call.header, &call.text);
-        let answer = function(call.scheme, key, nonce, header, text, &mut room);
+        let answer = call.make(self.side.sealing, &mut room);
         assert_eq!(answer.number, number, "record {}: {}", self.records, about);
         self.field("number", &answer.number.to_string());
         self.field("length", &answer.length.to_string());

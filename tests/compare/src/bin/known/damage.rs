@@ -2,10 +2,10 @@
 //! tag is right and whose padding is not.
 
 use crate::book::Book;
-use crate::call::{row_of, Call};
 use compare::blocks::pad10;
 use compare::forged::{forged_run, LastBlock};
 use compare::random::Random;
+use compare::records::{row_of, Call};
 use compare::schemes::Keyed;
 use compare::sealing::{DONE, NOT_AUTHENTIC};
 

@@ -2,8 +2,8 @@
 //! blocks than one. Each record is sealed and opened.
 
 use crate::book::Book;
-use crate::call::{row_of, Call};
 use compare::random::Random;
+use compare::records::{row_of, Call};
 use compare::sealing::DONE;
 
 /// Lengths of header and body over the block's size.

@@ -1,8 +1,8 @@
 //! Both sides of the limits of header and body.
 
 use crate::book::Book;
-use crate::call::{row_of, Call};
 use compare::random::Random;
+use compare::records::{row_of, Call};
 use compare::sealing::{DONE, NOT_AUTHENTIC, NO_BLOCK, TOO_LONG};
 
 const FILLING: u8 = 0x61;

@@ -5,7 +5,6 @@
 mod accident;
 mod blocks;
 mod book;
-mod call;
 mod damage;
 mod lengths;
 mod limits;

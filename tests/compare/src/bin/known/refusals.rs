@@ -2,8 +2,8 @@
 //! 6, and the first that applies answers.
 
 use crate::book::Book;
-use crate::call::{row_of, Call, Direction, SPARE};
 use compare::random::Random;
+use compare::records::{row_of, Call, Direction, SPARE};
 use compare::schemes::Scheme;
 use compare::sealing::{NOT_AUTHENTIC, NO_BLOCK, SHORT_ROOM, TOO_LONG};
 use compare::sealing::{UNKNOWN_SCHEME, WRONG_LENGTH};
@@ -88,13 +88,11 @@ fn faulty(good: &Call, faults: &[Fault]) -> Call {
     let row = row_of(good.scheme);
     let mut call = good.clone();
     for fault in faults {
-        if fault.number != UNKNOWN_SCHEME {
-            (fault.make)(&mut call, row);
-        }
+        (fault.make)(&mut call, row);
     }
-    call.room = call.exact_room() + SPARE;
+    call.room = call.room_under(row) + SPARE;
     for fault in faults {
-        if [UNKNOWN_SCHEME, SHORT_ROOM].contains(&fault.number) {
+        if fault.number == SHORT_ROOM {
             (fault.make)(&mut call, row);
         }
     }

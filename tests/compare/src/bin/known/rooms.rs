@@ -1,8 +1,8 @@
 //! Rooms that are exact, one byte short, empty and larger than is needed.
 
 use crate::book::Book;
-use crate::call::Call;
 use compare::random::Random;
+use compare::records::Call;
 use compare::sealing::{DONE, NOT_AUTHENTIC, SHORT_ROOM};
 
 /// Larger than any block, so that a rest that is touched is seen.

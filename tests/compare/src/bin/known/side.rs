@@ -1,31 +1,26 @@
 //! The two sides, by the same calls.
 
 use compare::calls::{Fork, Unfork};
-use compare::sealing::Answer;
+use compare::records::Sealing;
 use compare::{auraski, calls, sealing};
 
 pub type Block = [u8; 16];
 
-/// Seal or open.
-pub type Sealing = fn(u32, &[u8], &[u8], &[u8], &[u8], &mut [u8]) -> Answer;
-
 pub struct Side {
-    pub seal: Sealing,
-    pub open: Sealing,
+    /// Seal and open.
+    pub sealing: [Sealing; 2],
     pub fork: fn(u32, &Block, &Block, &Block, u32) -> Fork,
     pub unfork: fn(u32, &Block, &Block, &Block, u32, u32) -> Unfork,
 }
 
 pub static SECOND: Side = Side {
-    seal: sealing::seal,
-    open: sealing::open,
+    sealing: [sealing::seal, sealing::open],
     fork: calls::fork,
     unfork: calls::unfork,
 };
 
 pub static LIBRARY: Side = Side {
-    seal: auraski::seal,
-    open: auraski::open,
+    sealing: [auraski::seal, auraski::open],
     fork: library_fork,
     unfork: library_unfork,
 };

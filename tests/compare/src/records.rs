@@ -1,15 +1,35 @@
-//! A call of seal or open, and how one is changed into another.
+//! Calls of seal and open with their arguments, and how one is changed into
+//! another: for the comparison, the known answers and the benchmark.
 
-use compare::random::Random;
-use compare::schemes::Scheme;
+use crate::random::Random;
+use crate::schemes::Scheme;
+use crate::sealing::Answer;
 
-/// Bytes of room behind an output, where a record asks for no other room.
+/// Seal or open, of any side.
+pub type Sealing = fn(u32, &[u8], &[u8], &[u8], &[u8], &mut [u8]) -> Answer;
+
+/// Bytes of room behind an output, where no other room is asked for.
 pub const SPARE: usize = 3;
 
-#[derive(Clone, Copy, PartialEq, Eq)]
+#[derive(Clone, Copy, PartialEq, Eq, Debug)]
 pub enum Direction {
     Seal,
     Open,
+}
+
+impl Direction {
+    pub const BOTH: [Direction; 2] = [Direction::Seal, Direction::Open];
+
+    pub fn name(self) -> &'static str {
+        match self {
+            Direction::Seal => "seal",
+            Direction::Open => "open",
+        }
+    }
+
+    pub fn find(word: &str) -> Option<Direction> {
+        Direction::BOTH.into_iter().find(|one| one.name() == word)
+    }
 }
 
 /// The text is a body or a sealed run; of the room only the length is told.
@@ -66,12 +86,27 @@ impl Call {
         call
     }
 
+    /// Made by one side's seal or open, in the front of a room.
+    pub fn make(&self, [seal, open]: [Sealing; 2], room: &mut [u8]) -> Answer {
+        let function = match self.direction {
+            Direction::Seal => seal,
+            Direction::Open => open,
+        };
+        let (key, nonce, header) = (&self.key, &self.nonce, &self.header);
+        let room = &mut room[..self.room];
+        function(self.scheme, key, nonce, header, &self.text, room)
+    }
+
     /// How long the output would be.
     pub fn exact_room(&self) -> usize {
-        let block = row_of(self.scheme).block_bytes;
+        self.room_under(row_of(self.scheme))
+    }
+
+    /// The same under a scheme that the call need not name.
+    pub fn room_under(&self, row: &Scheme) -> usize {
         match self.direction {
-            Direction::Seal => self.text.len() + block,
-            Direction::Open => self.text.len().saturating_sub(block),
+            Direction::Seal => self.text.len() + row.block_bytes,
+            Direction::Open => self.text.len().saturating_sub(row.block_bytes),
         }
     }
 
