@@ -339,12 +339,14 @@ pub fn untable_of(c: Cipher) -> [u8; 256]
 }
 
 // The keys of the first m rounds.
-pub fn round_keys(c: Cipher, m: usize, t: Tweakey) -> [[u8; 8]; 87]
+pub fn round_keys(c: Cipher, m: usize, t: Tweakey) -> [[u8; 8]; 97]
     requires { ⌜ (m ≤ 87) × (t .at ≡ 0) ⌝ }
     ensures { λ r. ⌜ RoundKeys (widthOf c) (wordsOf c) m t r ⌝ }
 {
+    let mut keys = [[0u8; 8]; 97];
     match c {
-        Cipher::N64T192 => schedule::round_keys_64_192(m, t),
-        Cipher::N128T256 => schedule::round_keys_128_256(m, t),
+        Cipher::N64T192 => schedule::lay_keys_64_192(&mut keys, m, t),
+        Cipher::N128T256 => schedule::lay_keys_128_256(&mut keys, m, t),
     }
+    keys
 }

@@ -86,7 +86,7 @@ fn enter_branch(c: Cipher, b: Branch, s: [[u8; 4]; 4]) -> [[u8; 4]; 4]
 }
 
 // The state at the fork.
-fn to_fork(c: Cipher, table: &[u8; 256], keys: &[[u8; 8]; 87], m: [u8; 16]) -> [[u8; 4]; 4]
+fn to_fork(c: Cipher, table: &[u8; 256], keys: &[[u8; 8]; 97], m: [u8; 16]) -> [[u8; 4]; 4]
     requires { ⌜ Tabulates (sub (widthOf c)) 256 (now table) ⌝ }
     ensures { λ r. ⌜ ((t : Tweakey) → RoundKeys (widthOf c) (wordsOf c) (initOf c) t (now (keys .entry)) → r ≡ forked c t m) ⌝ }
 {
@@ -99,7 +99,7 @@ fn run_branch(
     c: Cipher,
     b: Branch,
     table: &[u8; 256],
-    keys: &[[u8; 8]; 87],
+    keys: &[[u8; 8]; 97],
     s: [[u8; 4]; 4],
 ) -> [u8; 16]
     requires { ⌜ Tabulates (sub (widthOf c)) 256 (now table) ⌝ }
@@ -115,7 +115,7 @@ fn unrun_branch(
     c: Cipher,
     b: Branch,
     untable: &[u8; 256],
-    keys: &[[u8; 8]; 87],
+    keys: &[[u8; 8]; 97],
     h: [u8; 16],
 ) -> [[u8; 4]; 4]
     requires { ⌜ Tabulates (unsub (widthOf c)) 256 (now untable) ⌝ }
@@ -131,7 +131,7 @@ fn unrun_branch(
 }
 
 // The input block, from the state at the fork.
-fn from_fork(c: Cipher, untable: &[u8; 256], keys: &[[u8; 8]; 87], s: [[u8; 4]; 4]) -> [u8; 16]
+fn from_fork(c: Cipher, untable: &[u8; 256], keys: &[[u8; 8]; 97], s: [[u8; 4]; 4]) -> [u8; 16]
     requires { ⌜ Tabulates (unsub (widthOf c)) 256 (now untable) ⌝ }
     ensures { λ r. ⌜ ((t : Tweakey) → RoundKeys (widthOf c) (wordsOf c) (initOf c) t (now (keys .entry)) → r ≡ unforked c t s) ⌝ }
 {
@@ -157,7 +157,7 @@ fn half_if(
     c: Cipher,
     h: u32,
     table: &[u8; 256],
-    keys: &[[u8; 8]; 87],
+    keys: &[[u8; 8]; 97],
     s: [[u8; 4]; 4],
 ) -> [u8; 16]
     requires { ⌜ Tabulates (sub (widthOf c)) 256 (now table) ⌝ }
@@ -175,7 +175,7 @@ fn input_if(
     asked: bool,
     c: Cipher,
     untable: &[u8; 256],
-    keys: &[[u8; 8]; 87],
+    keys: &[[u8; 8]; 97],
     s: [[u8; 4]; 4],
 ) -> [u8; 16]
     requires { ⌜ Tabulates (unsub (widthOf c)) 256 (now untable) ⌝ }

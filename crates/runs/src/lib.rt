@@ -5,7 +5,7 @@ ghost use Rattle.runs.specs.Runs.{Ran, Unran};
 // As many rounds as count says, from round `from` on.
 pub fn run(
     table: &[u8; 256],
-    keys: &[[u8; 8]; 87],
+    keys: &[[u8; 8]; 97],
     from: usize,
     count: usize,
     s: [[u8; 4]; 4],
@@ -37,7 +37,7 @@ pub fn run(
 // These rounds undone, the last one first.
 pub fn unrun(
     table: &[u8; 256],
-    keys: &[[u8; 8]; 87],
+    keys: &[[u8; 8]; 97],
     from: usize,
     count: usize,
     s: [[u8; 4]; 4],

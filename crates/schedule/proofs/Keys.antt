@@ -1,97 +1,124 @@
--- What the loops of the round keys keep, over the width and the number of words: rows laid one after the other, and in a row
--- its cells. Assumes nothing.
-use mathlib.Core.Path.{_≡_, refl, sym, ap, _∙_}
-use Prim.Native.Nat.{ℕ, _+_, _<_, _≤_}
+-- What the code that lays round keys keeps, over the width and the number of words: two keys more, sixteen more, and behind the
+-- first row all to the round at which the tweakey stands. Assumes nothing.
+use mathlib.Core.Path.{_≡_, refl, sym, ap, _∙_, subst, subst⁻¹}
+use Prim.Native.Nat.{ℕ, zero, suc, _+_, _*_, _-_, _<_, _≤_}
 use mathlib.Core.List.{List, []}
+use native.Mathlib.Decide.{decLt}
 use native.Mathlib.Omega.{arith}
 use borrow.Author.Count.{below-none, below-more}
-use lib.ListN.{length, getD, set, replicate, length-set, length-replicate, getD-replicate}
-use lib.Seq.{getD-set-same, getD-set-other, set-getD, set-set, ext-getD}
+use lib.Dec.{T, ltb, ltb→lt}
+use lib.ListN.{length, getD, set, length-set}
+use lib.Seq.{getD-set-same, getD-set-other}
 use Rattle.cells.specs.Cells.{Width, Words}
-use Rattle.cells.proofs.Below.{tab, table}
 use Rattle.schedule.specs.declared.Tweakey.{Tweakey}
-use Rattle.schedule.specs.Schedule.{keyCell, roundKey, next, advance, RoundKeys}
-use Rattle.schedule.proofs.Places.{advance-at, advance-one}
+use Rattle.schedule.specs.Schedule.{keyCells, roundKey, advance, RoundKeys}
+use Rattle.schedule.specs.Sixteen.{Sums, moved, pairLaid, Laid}
+use Rattle.schedule.proofs.Places.{advance-at, advance-add}
+use Rattle.schedule.proofs.Sixteen.{first-key, second-key}
 
--- ---- values of f laid one after the other, of keys and of a key's cells alike
+-- the key of round r, counted from the tweakey t
+abbrev keyAt : Width → Words → Tweakey → ℕ → List ℕ
+keyAt w n t r = roundKey n ((advance w n r t) .cells)
 
--- l has n places, d stands for one past them: the first i hold f's values, the others z
-pub record Laid {A : Type 0} (f : ℕ → A) (z d : A) (n i : ℕ) (l : List A) : Type 0 where
-  pub long : length l ≡ n
-  pub front : (k : ℕ) → k < i → getD l k d ≡ f k
-  pub rest : (k : ℕ) → i ≤ k → k < n → getD l k d ≡ z
+-- ---- sixteen keys
 
--- none laid
-laid-none : {A : Type 0} (f : ℕ → A) (z d : A) (n : ℕ) → Laid f z d n 0 (replicate n z)
-laid-none f z d n = record {
-  long = length-replicate n z;
-  front = below-none _;
-  rest = λ k _ h. getD-replicate n k z d h;
-}
+laid-none : {w : Width} {n : Words} {t : Tweakey} {keys : List (List ℕ)} → Laid w n t 0 keys keys
+laid-none = record { long = refl; front = λ r h. refl; rows = below-none _ }
 
--- the store of the next value
 laid-more
-    : {A : Type 0} {f : ℕ → A} {z d v : A} {n i : ℕ} {l : List A} → Laid f z d n i l → i < n → v ≡ f i → Laid f z d n (i + 1) (set l i v)
-laid-more {A} {f} {z} {d} {v} {n} {i} {l} s h e = record {
-  long = length-set l i v ∙ s .long;
-  front = below-more _ i (λ k p. getD-set-other l i k v d (λ q. omega arith) ∙ s .front k p) (getD-set-same l i v d (omega (arith, s .long)) ∙ e);
-  rest = λ k p q. getD-set-other l i k v d (λ r. omega arith) ∙ s .rest k (omega arith) q;
+    : {w : Width} {n : Words} {t : Tweakey} {b : ℕ} {x : List ℕ} {before keys : List (List ℕ)} (i : ℕ)
+    → i ≡ t .at + b + 1 → Laid w n t b before keys → i < length before → x ≡ keyAt w n t (b + 1) → Laid w n t (b + 1) before (set keys i x)
+laid-more {w} {n} {t} {b} {x} {before} {keys} i q s h e = record {
+  long = length-set keys i x ∙ s .long;
+  front = λ r p. getD-set-other keys i r x [] (λ o. omega arith) ∙ s .front r p;
+  rows = below-more (λ (k : ℕ). getD (set keys i x) (t .at + k + 1) [] ≡ keyAt w n t (k + 1)) b
+      (λ k p. getD-set-other keys i (t .at + k + 1) x [] (λ o. omega arith) ∙ s .rows k p)
+      (ap (λ (j : ℕ). getD (set keys i x) j []) (sym q) ∙ getD-set-same keys i x [] (omega (arith, s .long)) ∙ e);
 }
 
--- ---- the inner loop: keys is keys₀ with j cells of t's key laid in row i
-pub record Row (n : Words) (t : List ℕ) (i : ℕ) (keys₀ : List (List ℕ)) (j : ℕ) (keys : List (List ℕ)) : Type 0 where
-  pub cells : Laid (keyCell n t) 0 0 8 j (getD keys i [])
-  pub others : keys ≡ set keys₀ i (getD keys i [])
+-- what the eight calls of `lay_two` do
+abbrev pub LaidTwo : Tweakey → List (List ℕ) → ℕ → List (List ℕ) → List (List ℕ) → Type 0
+LaidTwo t sums k keys keys′ = keys′ ≡ pairLaid (t .at + 2 * k + 1) (moved (k + 1) (getD sums k [])) keys
 
--- the store of the next cell
-pub row-more
-    : {n : Words} {t : List ℕ} {i j v : ℕ} {keys₀ keys : List (List ℕ)}
-    → Row n t i keys₀ j keys → i < length keys₀ → j < 8 → v ≡ keyCell n t j → Row n t i keys₀ (j + 1) (set keys i (set (getD keys i []) j v))
-row-more {n} {t} {i} {j} {v} {keys₀} {keys} r h k e =
-    let row = set (getD keys i []) j v in
-    let l : length keys ≡ length keys₀ = ap length (r .others) ∙ length-set keys₀ i (getD keys i []) in
-    let same : getD (set keys i row) i [] ≡ row = getD-set-same keys i row [] (omega arith) in record {
-      cells = rw same (laid-more (r .cells) k e);
-      others = rw same (ap (λ (l : List (List ℕ)). set l i row) (r .others) ∙ set-set keys₀ i (getD keys i []) row);
-    }
+laid-two
+    : {w : Width} {n : Words} {t : Tweakey} {sums before keys keys′ : List (List ℕ)} (k : ℕ)
+    → Sums w n (t .cells) sums → t .at + 16 < length before
+    → T (ltb k 8) → Laid w n t (2 * k) before keys → LaidTwo t sums k keys keys′ → Laid w n t (2 * (k + 1)) before keys′
+laid-two {w} {n} {t} {sums} {before} {keys} {keys′} k s h p r e =
+    let l = ltb→lt k 8 p in
+    let two : 2 * k + 1 + 1 ≡ 2 * (k + 1) = omega arith in
+    let i = t .at + 2 * k + 1 in
+    let last : 2 * k + 2 ≡ 2 * k + 1 + 1 = omega arith in
+    subst (λ (b : ℕ). Laid w n t b before keys′) two
+    (subst⁻¹ (Laid w n t (2 * k + 1 + 1) before) e
+    (laid-more (i + 1) (omega arith) (laid-more i refl r (omega arith) (first-key w t s k l)) (omega arith)
+    (second-key w t s k l ∙ ap (keyAt w n t) last)))
 
--- a full row is t's key
-row-all : {n : Words} {t : List ℕ} {i j : ℕ} {keys₀ keys : List (List ℕ)} → Row n t i keys₀ j keys → 8 ≤ j → getD keys i [] ≡ roundKey n t
-unfolding roundKey
-row-all {n} {t} {i} {j} {keys₀} {keys} r h =
-    let c = r .cells in
-    ext-getD 0 (getD keys i []) (tab (keyCell n t) 0 8) (c .long)
-    (λ k p. let q : k < 8 = omega (arith, c .long) in c .front k (omega arith) ∙ sym (table (keyCell n t) 8 k q))
+pub laid-sixteen
+    : {w : Width} {n : Words} {t : Tweakey} {sums k₀ k₁ k₂ k₃ k₄ k₅ k₆ k₇ k₈ : List (List ℕ)}
+    → Sums w n (t .cells) sums → t .at + 16 < length k₀
+    → LaidTwo t sums 0 k₀ k₁ → LaidTwo t sums 1 k₁ k₂ → LaidTwo t sums 2 k₂ k₃ → LaidTwo t sums 3 k₃ k₄
+    → LaidTwo t sums 4 k₄ k₅ → LaidTwo t sums 5 k₅ k₆ → LaidTwo t sums 6 k₆ k₇ → LaidTwo t sums 7 k₇ k₈ → Laid w n t 16 k₀ k₈
+laid-sixteen s h e₀ e₁ e₂ e₃ e₄ e₅ e₆ e₇ =
+    laid-two 7 s h tt (laid-two 6 s h tt (laid-two 5 s h tt (laid-two 4 s h tt (laid-two 3 s h tt (laid-two 2 s h tt (laid-two 1 s h tt (laid-two 0 s h tt laid-none e₀) e₁) e₂) e₃) e₄) e₅) e₆) e₇
 
--- ---- the outer loop: u is t i rounds on, and the keys of these rounds are laid
-pub record Keys (w : Width) (n : Words) (t : Tweakey) (i : ℕ) (u : Tweakey) (keys : List (List ℕ)) : Type 0 where
-  pub now : u ≡ advance w n i t
-  pub rows : Laid (λ (k : ℕ). roundKey n ((advance w n k t) .cells)) (replicate 8 0) [] 87 i keys
+-- ---- all keys
 
--- before the first round: the zeros that the code begins with
-pub keys-none : (w : Width) (n : Words) (t : Tweakey) → Keys w n t 0 t (replicate 87 (replicate 8 0))
+-- t has gone on to u by turns of sixteen rounds, and the keys of the rounds to there are laid, but for the first
+pub record Keys (w : Width) (n : Words) (t u : Tweakey) (keys : List (List ℕ)) : Type 0 where
+  pub turns : ℕ
+  pub whole : u .at ≡ 16 * turns
+  pub most : turns ≤ 6
+  pub now : u ≡ advance w n (u .at) t
+  pub long : length keys ≡ 97
+  pub rows : (r : ℕ) → 0 < r → r < u .at + 1 → getD keys r [] ≡ keyAt w n t r
+
+-- where a turn leads
+pub turn-at : (w : Width) (n : Words) (u v : Tweakey) → v ≡ advance w n 16 u → v .at ≡ u .at + 16
+turn-at w n u v e = ap (λ (x : Tweakey). x .at) e ∙ advance-at w n 16 u
+
+-- before the first turn
+pub keys-none : (w : Width) (n : Words) (t : Tweakey) (keys : List (List ℕ)) → t .at ≡ 0 → length keys ≡ 97 → Keys w n t t keys
 unfolding advance
-keys-none w n t = record { now = refl; rows = laid-none _ _ _ _ }
+keys-none w n t keys z l = record {
+  turns = 0;
+  whole = z;
+  most = omega arith;
+  now = ap (λ (m : ℕ). advance w n m t) (sym z);
+  long = l;
+  rows = λ r p q. absurd (omega (arith, z));
+}
 
-module _ {w : Width} {n : Words} {t : Tweakey} {i : ℕ} {u : Tweakey} {keys : List (List ℕ)} (s : Keys w n t i u keys) where
-  -- the place, of which `next` requires that it is below 87
-  pub keys-at : u .at ≡ t .at + i
-  keys-at = ap (λ (v : Tweakey). v .at) (s .now) ∙ advance-at w n i t
-
-  -- the inner loop begins
-  pub row-none : i < 87 → Row n (u .cells) i keys 0 keys
-  row-none h =
-      record { cells = rw (s .rows .rest i (omega arith) h) (laid-none _ _ _ 8); others = sym (set-getD keys i []) }
-
-  -- the inner loop has ended, and the tweakey goes on
+module _ {w : Width} {n : Words} {t u : Tweakey} {keys : List (List ℕ)} (s : Keys w n t u keys) where
+  -- a turn
   pub keys-more
-      : {j : ℕ} {v : Tweakey} {keys′ : List (List ℕ)}
-      → Row n (u .cells) i keys j keys′ → i < 87 → 8 ≤ j → v ≡ next w n u → Keys w n t (i + 1) v keys′
-  keys-more {j} {v} {keys′} r h k e = record {
-    now = e ∙ ap (next w n) (s .now) ∙ sym (advance-one w n i t);
-    rows = rw (r .others) (laid-more (s .rows) h (row-all r k ∙ ap (λ (v : Tweakey). roundKey n (v .cells)) (s .now)));
-  }
+      : {v : Tweakey} {keys′ : List (List ℕ)} → u .at < 86 → (v ≡ advance w n 16 u) × Laid w n u 16 keys keys′ → Keys w n t v keys′
+  keys-more {v} {keys′} h (e, l) = record {
+    turns = s .turns + 1;
+    whole = omega (arith, s .whole, on);
+    most = omega (arith, s .whole);
+    now = e ∙ onward 16 ∙ ap (λ (k : ℕ). advance w n k t) (sym on);
+    long = l .long ∙ s .long;
+    rows = λ r z p. elim (decLt r (u .at + 1)) [
+      | yes a ↦ l .front r a ∙ s .rows r z a
+      | no a ↦ let k = r - (u .at + 1) in
+          let e : u .at + k + 1 ≡ r = omega arith in
+          subst (λ (i : ℕ). getD keys′ i [] ≡ keyAt w n t i) e
+          (l .rows k (omega (arith, on)) ∙ ap (λ (x : Tweakey). roundKey n (x .cells)) (onward (k + 1)) ∙ ap (keyAt w n t) (omega arith))
+    ];
+  } where
+    onward : (m : ℕ) → advance w n m u ≡ advance w n (u .at + m) t
+    onward m = ap (advance w n m) (s .now) ∙ advance-add w n (u .at) m t
 
-  -- the outer loop has ended
-  pub keys-all : {m : ℕ} → t .at ≡ 0 → m ≤ i → RoundKeys w n m t keys
-  keys-all z h = record { first = z; at = λ k p. s .rows .front k (omega arith) }
+    on : v .at ≡ u .at + 16
+    on = turn-at w n u v e
+
+  -- the first key, behind the loop
+  pub keys-all : {m : ℕ} {keys′ : List (List ℕ)} → t .at ≡ 0 → m ≤ u .at + 1 → keys′ ≡ set keys 0 (keyCells n (t .cells)) → RoundKeys w n m t keys′
+  unfolding roundKey advance
+  keys-all {m} {keys′} z h e = record { first = z; at = laid } where
+    laid : (k : ℕ) → k < m → getD keys′ k [] ≡ keyAt w n t k
+    laid zero p = ap (λ (l : List (List ℕ)). getD l 0 []) e ∙ getD-set-same keys 0 (keyCells n (t .cells)) [] (omega (arith, s .long))
+    laid (suc k) p =
+        ap (λ (l : List (List ℕ)). getD l (suc k) []) e ∙ getD-set-other keys 0 (suc k) (keyCells n (t .cells)) [] (λ q. omega arith)
+        ∙ s .rows (suc k) (omega arith) (omega arith)

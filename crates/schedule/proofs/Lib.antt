@@ -1,4 +1,6 @@
 pub mod Keys
 pub mod Low
 pub mod Places
-pub mod Steps
+pub mod Sixteen
+pub mod Standing
+pub mod Trails

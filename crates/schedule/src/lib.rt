@@ -1,9 +1,14 @@
-// The tweakey, how it goes from round to round, the keys that the rounds take of it, and the round constants.
+// The tweakey, how it goes sixteen rounds on at once, the keys that the rounds take of it, and the round constants.
+// Two rounds step every cell of words 2 and 3 once, and move the cells of a word's upper half and of its lower half among
+// themselves; after sixteen rounds each stands where it stood. So cells are stepped where they stand, and only a key is moved.
 ghost use mathlib.Core.Path.{_≡_};
-ghost use Prim.Native.Nat.{_<_, _≤_};
+ghost use Prim.Native.Nat.{_+_, _*_, _<_, _≤_};
+ghost use mathlib.Core.List.{map};
+ghost use lib.ListN.{length, set, replicate};
 ghost use Rattle.cells.specs.Cells.{Nibble, Byte, Two, Three, Tabulates};
 ghost use Rattle.schedule.specs.Constants.{constant};
-ghost use Rattle.schedule.specs.Schedule.{permutedWords, nextCells, next, RoundKeys};
+ghost use Rattle.schedule.specs.Schedule.{keyCells, advance, RoundKeys};
+ghost use Rattle.schedule.specs.Sixteen.{standing, Sums, movedOnce, moved, pairLaid, Laid};
 
 // The tweakey: room for three words of sixteen cells, one after the other, and the number of rounds that it has served.
 pub struct Tweakey {
@@ -11,203 +16,198 @@ pub struct Tweakey {
     pub at: usize,
 }
 
-// Both words permuted.
-fn permuted_2(t: [u8; 48]) -> [u8; 48]
-    ensures { λ r. ⌜ r ≡ permutedWords Two t ⌝ }
+// ---- sixteen rounds on
+
+// The cells of 64-192 stepped eight times where they stand; after each step, the words xored are a row of sums.
+fn stepped_64_192(sums: &mut [[u8; 16]; 8], t: [u8; 48]) -> [u8; 48]
+    requires { ⌜ map length (now sums) ≡ replicate 8 16 ⌝ }
+    ensures { λ r. ⌜ (r ≡ standing Nibble Three 8 t) × Sums Nibble Three t (now (sums .exit)) ⌝ }
+{
+    let mut c = t;
+    for j in 0..16 {
+        for k in 0..8 {
+            c[16 + j] = cells::left_nibble(c[16 + j]);
+            c[32 + j] = cells::right_nibble(c[32 + j]);
+            sums[k][j] = c[j] ^ c[16 + j] ^ c[32 + j];
+        }
+    }
+    c
+}
+
+// The same for 128-256.
+fn stepped_128_256(sums: &mut [[u8; 16]; 8], t: [u8; 48]) -> [u8; 48]
+    requires { ⌜ map length (now sums) ≡ replicate 8 16 ⌝ }
+    ensures { λ r. ⌜ (r ≡ standing Byte Two 8 t) × Sums Byte Two t (now (sums .exit)) ⌝ }
+{
+    let mut c = t;
+    for j in 0..16 {
+        for k in 0..8 {
+            c[16 + j] = cells::left_byte(c[16 + j]);
+            sums[k][j] = c[j] ^ c[16 + j];
+        }
+    }
+    c
+}
+
+// ---- round keys
+
+// Where two rounds move the cells of a word.
+fn moved_once(s: [u8; 16]) -> [u8; 16]
+    ensures { λ r. ⌜ r ≡ movedOnce s ⌝ }
 {
     [
-        t[9],
-        t[15],
-        t[8],
-        t[13],
-        t[10],
-        t[14],
-        t[12],
-        t[11],
-        t[0],
-        t[1],
-        t[2],
-        t[3],
-        t[4],
-        t[5],
-        t[6],
-        t[7],
-        t[25],
-        t[31],
-        t[24],
-        t[29],
-        t[26],
-        t[30],
-        t[28],
-        t[27],
-        t[16],
-        t[17],
-        t[18],
-        t[19],
-        t[20],
-        t[21],
-        t[22],
-        t[23],
-        t[32],
-        t[33],
-        t[34],
-        t[35],
-        t[36],
-        t[37],
-        t[38],
-        t[39],
-        t[40],
-        t[41],
-        t[42],
-        t[43],
-        t[44],
-        t[45],
-        t[46],
-        t[47],
+        s[1],
+        s[7],
+        s[0],
+        s[5],
+        s[2],
+        s[6],
+        s[4],
+        s[3],
+        s[9],
+        s[15],
+        s[8],
+        s[13],
+        s[10],
+        s[14],
+        s[12],
+        s[11],
     ]
 }
 
-// All three words permuted.
-fn permuted_3(t: [u8; 48]) -> [u8; 48]
-    ensures { λ r. ⌜ r ≡ permutedWords Three t ⌝ }
+// Where n times two rounds do. (Every caller says n, so the compiler makes one move of them.)
+fn moved_by(n: usize, s: [u8; 16]) -> [u8; 16]
+    ensures { λ r. ⌜ r ≡ moved n s ⌝ }
 {
-    [
-        t[9],
-        t[15],
-        t[8],
-        t[13],
-        t[10],
-        t[14],
-        t[12],
-        t[11],
-        t[0],
-        t[1],
-        t[2],
-        t[3],
-        t[4],
-        t[5],
-        t[6],
-        t[7],
-        t[25],
-        t[31],
-        t[24],
-        t[29],
-        t[26],
-        t[30],
-        t[28],
-        t[27],
-        t[16],
-        t[17],
-        t[18],
-        t[19],
-        t[20],
-        t[21],
-        t[22],
-        t[23],
-        t[41],
-        t[47],
-        t[40],
-        t[45],
-        t[42],
-        t[46],
-        t[44],
-        t[43],
-        t[32],
-        t[33],
-        t[34],
-        t[35],
-        t[36],
-        t[37],
-        t[38],
-        t[39],
-    ]
+    let mut r = s;
+    for i in 0..n {
+        let m = moved_once(r);
+        r = m;
+    }
+    r
 }
 
-// The cells of 64-192 for the next round: every word permuted, then the top two rows of the later words stepped.
-fn next_cells_64_192(t: [u8; 48]) -> [u8; 48]
-    ensures { λ r. ⌜ r ≡ nextCells Nibble Three t ⌝ }
+// The keys of two rounds, the first at `at`: the lower half of s, then the upper one.
+fn lay_pair(keys: &mut [[u8; 8]; 97], at: usize, s: [u8; 16])
+    requires { ⌜ at + 1 < 97 ⌝ }
+    ensures { λ r. ⌜ now (keys .exit) ≡ pairLaid at s (now (keys .entry)) ⌝ }
 {
-    let mut n = permuted_3(t);
-    for k in 0..8 {
-        n[16 + k] = cells::left_nibble(n[16 + k]);
-    }
-    for k in 0..8 {
-        n[32 + k] = cells::right_nibble(n[32 + k]);
-    }
-    n
+    keys[at] = [s[8], s[9], s[10], s[11], s[12], s[13], s[14], s[15]];
+    keys[at + 1] = [s[0], s[1], s[2], s[3], s[4], s[5], s[6], s[7]];
 }
 
-// The tweakey of 64-192 for the next round.
-fn next_64_192(t: Tweakey) -> Tweakey
-    requires { ⌜ t .at < 87 ⌝ }
-    ensures { λ r. ⌜ r ≡ next Nibble Three t ⌝ }
+// The keys of two rounds, 2k + 1 and 2k + 2 after round `at`, from row k of the sums.
+fn lay_two(keys: &mut [[u8; 8]; 97], at: usize, k: usize, sum: [u8; 16])
+    requires { ⌜ at + 2 * k + 2 < 97 ⌝ }
+    ensures { λ r. ⌜ now (keys .exit) ≡ pairLaid (at + 2 * k + 1) (moved (k + 1) sum) (now (keys .entry)) ⌝ }
 {
+    lay_pair(keys, at + 2 * k + 1, moved_by(k + 1, sum));
+}
+
+// The tweakey of 64-192 goes sixteen rounds on, and the keys of these rounds are laid. (Eight calls and no loop: so the compiler knows each move.)
+fn sixteen_on_64_192(keys: &mut [[u8; 8]; 97], t: Tweakey) -> Tweakey
+    requires { ⌜ (t .at < 81) × (length (now keys) ≡ 97) ⌝ }
+    ensures { λ r. ⌜ (r ≡ advance Nibble Three 16 t) × Laid Nibble Three t 16 (now (keys .entry)) (now (keys .exit)) ⌝ }
+{
+    let mut sums = [[0u8; 16]; 8];
     let c = t.cells;
-    let n = next_cells_64_192(c);
+    let d = stepped_64_192(&mut sums, c);
+    let at = t.at;
+    lay_two(keys, at, 0, sums[0]);
+    lay_two(keys, at, 1, sums[1]);
+    lay_two(keys, at, 2, sums[2]);
+    lay_two(keys, at, 3, sums[3]);
+    lay_two(keys, at, 4, sums[4]);
+    lay_two(keys, at, 5, sums[5]);
+    lay_two(keys, at, 6, sums[6]);
+    lay_two(keys, at, 7, sums[7]);
     Tweakey {
-        cells: n,
-        at: t.at + 1,
+        cells: d,
+        at: at + 16,
     }
 }
 
-// The keys of the first m rounds of 64-192. (Stored cell by cell in this very loop: so the compiler works eight cells at once.)
-pub fn round_keys_64_192(m: usize, t: Tweakey) -> [[u8; 8]; 87]
-    requires { ⌜ (m ≤ 87) × (t .at ≡ 0) ⌝ }
-    ensures { λ r. ⌜ RoundKeys Nibble Three m t r ⌝ }
+// The tweakey of 128-256 goes sixteen rounds on, and the keys of these rounds are laid.
+fn sixteen_on_128_256(keys: &mut [[u8; 8]; 97], t: Tweakey) -> Tweakey
+    requires { ⌜ (t .at < 81) × (length (now keys) ≡ 97) ⌝ }
+    ensures { λ r. ⌜ (r ≡ advance Byte Two 16 t) × Laid Byte Two t 16 (now (keys .entry)) (now (keys .exit)) ⌝ }
 {
-    let mut keys = [[0u8; 8]; 87];
+    let mut sums = [[0u8; 16]; 8];
+    let c = t.cells;
+    let d = stepped_128_256(&mut sums, c);
+    let at = t.at;
+    lay_two(keys, at, 0, sums[0]);
+    lay_two(keys, at, 1, sums[1]);
+    lay_two(keys, at, 2, sums[2]);
+    lay_two(keys, at, 3, sums[3]);
+    lay_two(keys, at, 4, sums[4]);
+    lay_two(keys, at, 5, sums[5]);
+    lay_two(keys, at, 6, sums[6]);
+    lay_two(keys, at, 7, sums[7]);
+    Tweakey {
+        cells: d,
+        at: at + 16,
+    }
+}
+
+// The key of the first round of 64-192.
+fn lay_first_64_192(keys: &mut [[u8; 8]; 97], c: [u8; 48])
+    ensures { λ r. ⌜ now (keys .exit) ≡ set (now (keys .entry)) 0 (keyCells Three c) ⌝ }
+{
+    keys[0] = [
+        c[0] ^ c[16] ^ c[32],
+        c[1] ^ c[17] ^ c[33],
+        c[2] ^ c[18] ^ c[34],
+        c[3] ^ c[19] ^ c[35],
+        c[4] ^ c[20] ^ c[36],
+        c[5] ^ c[21] ^ c[37],
+        c[6] ^ c[22] ^ c[38],
+        c[7] ^ c[23] ^ c[39],
+    ];
+}
+
+// The key of the first round of 128-256.
+fn lay_first_128_256(keys: &mut [[u8; 8]; 97], c: [u8; 48])
+    ensures { λ r. ⌜ now (keys .exit) ≡ set (now (keys .entry)) 0 (keyCells Two c) ⌝ }
+{
+    keys[0] = [
+        c[0] ^ c[16],
+        c[1] ^ c[17],
+        c[2] ^ c[18],
+        c[3] ^ c[19],
+        c[4] ^ c[20],
+        c[5] ^ c[21],
+        c[6] ^ c[22],
+        c[7] ^ c[23],
+    ];
+}
+
+// The keys of the first m rounds of 64-192, and of fewer than sixteen more.
+pub fn lay_keys_64_192(keys: &mut [[u8; 8]; 97], m: usize, t: Tweakey)
+    requires { ⌜ (m ≤ 87) × (t .at ≡ 0) × (length (now keys) ≡ 97) ⌝ }
+    ensures { λ r. ⌜ RoundKeys Nibble Three m t (now (keys .exit)) ⌝ }
+{
     let mut u = t;
-    for i in 0..m {
-        let c = u.cells;
-        for j in 0..8 {
-            keys[i][j] = c[j] ^ c[16 + j] ^ c[32 + j];
-        }
-        let v = next_64_192(u);
+    while u.at + 1 < m {
+        let v = sixteen_on_64_192(keys, u);
         u = v;
     }
-    keys
-}
-
-// The cells of 128-256 for the next round: every word permuted, then the top two rows of the later words stepped.
-fn next_cells_128_256(t: [u8; 48]) -> [u8; 48]
-    ensures { λ r. ⌜ r ≡ nextCells Byte Two t ⌝ }
-{
-    let mut n = permuted_2(t);
-    for k in 0..8 {
-        n[16 + k] = cells::left_byte(n[16 + k]);
-    }
-    n
-}
-
-// The tweakey of 128-256 for the next round.
-fn next_128_256(t: Tweakey) -> Tweakey
-    requires { ⌜ t .at < 87 ⌝ }
-    ensures { λ r. ⌜ r ≡ next Byte Two t ⌝ }
-{
     let c = t.cells;
-    let n = next_cells_128_256(c);
-    Tweakey {
-        cells: n,
-        at: t.at + 1,
-    }
+    lay_first_64_192(keys, c);
 }
 
-// The keys of the first m rounds of 128-256. (Stored cell by cell in this very loop: so the compiler works eight cells at once.)
-pub fn round_keys_128_256(m: usize, t: Tweakey) -> [[u8; 8]; 87]
-    requires { ⌜ (m ≤ 87) × (t .at ≡ 0) ⌝ }
-    ensures { λ r. ⌜ RoundKeys Byte Two m t r ⌝ }
+// The keys of the first m rounds of 128-256, and of fewer than sixteen more.
+pub fn lay_keys_128_256(keys: &mut [[u8; 8]; 97], m: usize, t: Tweakey)
+    requires { ⌜ (m ≤ 87) × (t .at ≡ 0) × (length (now keys) ≡ 97) ⌝ }
+    ensures { λ r. ⌜ RoundKeys Byte Two m t (now (keys .exit)) ⌝ }
 {
-    let mut keys = [[0u8; 8]; 87];
     let mut u = t;
-    for i in 0..m {
-        let c = u.cells;
-        for j in 0..8 {
-            keys[i][j] = c[j] ^ c[16 + j];
-        }
-        let v = next_128_256(u);
+    while u.at + 1 < m {
+        let v = sixteen_on_128_256(keys, u);
         u = v;
     }
-    keys
+    let c = t.cells;
+    lay_first_128_256(keys, c);
 }
 
 // The constants of all rounds, as table 2 of the Forkcipher paper prints them.

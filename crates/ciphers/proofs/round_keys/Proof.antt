@@ -10,32 +10,32 @@ use Rattle.ciphers.proofs.round_keys.Tie as tie
 enum-told : tie.Need-enum-told
 enum-told c = search needs
 
-round-keys-64-192-requires : tie.Need-round-keys-64-192-requires
-round-keys-64-192-requires c κs = search needs
+lay-keys-64-192-requires : tie.Need-lay-keys-64-192-requires
+lay-keys-64-192-requires c κs = search needs
 
 enum-told-2 : tie.Need-enum-told-2
 enum-told-2 c = search needs
 
-round-keys-128-256-requires : tie.Need-round-keys-128-256-requires
-round-keys-128-256-requires c κs = search needs
+lay-keys-128-256-requires : tie.Need-lay-keys-128-256-requires
+lay-keys-128-256-requires c κs = search needs
 
 returns : tie.Need-returns
 returns c =
-    let a = c .before .before .before .args in
-    subst⁻¹ (λ (x : Cipher). RoundKeys (widthOf x) (wordsOf x) (a .m) (a .t) (c .round-keys-64-192 .result)) (c .before .enum-told .given .1) (c .round-keys-64-192 .ensures)
+    let a = c .before .before .before .before .args in
+    subst⁻¹ (λ (x : Cipher). RoundKeys (widthOf x) (wordsOf x) (a .m) (a .t) (c .lay-keys-64-192 .last .0)) (c .before .before .enum-told .given .1) (c .lay-keys-64-192 .ensures)
 
 returns-2 : tie.Need-returns-2
 returns-2 c =
-    let a = c .before .before .before .args in
-    subst⁻¹ (λ (x : Cipher). RoundKeys (widthOf x) (wordsOf x) (a .m) (a .t) (c .round-keys-128-256 .result)) (c .before .enum-told2 .given .1) (c .round-keys-128-256 .ensures)
+    let a = c .before .before .before .before .args in
+    subst⁻¹ (λ (x : Cipher). RoundKeys (widthOf x) (wordsOf x) (a .m) (a .t) (c .lay-keys-128-256 .last .0)) (c .before .before .enum-told2 .given .1) (c .lay-keys-128-256 .ensures)
 
 pub round-keys-spec : {M : Type 1} → statement M
 round-keys-spec =
     tie.close
     (tie.spec
     enum-told
-    round-keys-64-192-requires
+    lay-keys-64-192-requires
     enum-told-2
-    round-keys-128-256-requires
+    lay-keys-128-256-requires
     returns
     returns-2)
