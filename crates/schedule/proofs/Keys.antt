@@ -60,7 +60,8 @@ pub laid-sixteen
     → LaidTwo t sums 0 k₀ k₁ → LaidTwo t sums 1 k₁ k₂ → LaidTwo t sums 2 k₂ k₃ → LaidTwo t sums 3 k₃ k₄
     → LaidTwo t sums 4 k₄ k₅ → LaidTwo t sums 5 k₅ k₆ → LaidTwo t sums 6 k₆ k₇ → LaidTwo t sums 7 k₇ k₈ → Laid w n t 16 k₀ k₈
 laid-sixteen s h e₀ e₁ e₂ e₃ e₄ e₅ e₆ e₇ =
-    laid-two 7 s h tt (laid-two 6 s h tt (laid-two 5 s h tt (laid-two 4 s h tt (laid-two 3 s h tt (laid-two 2 s h tt (laid-two 1 s h tt (laid-two 0 s h tt laid-none e₀) e₁) e₂) e₃) e₄) e₅) e₆) e₇
+    let four = laid-two 3 s h tt (laid-two 2 s h tt (laid-two 1 s h tt (laid-two 0 s h tt laid-none e₀) e₁) e₂) e₃ in
+    laid-two 7 s h tt (laid-two 6 s h tt (laid-two 5 s h tt (laid-two 4 s h tt four e₄) e₅) e₆) e₇
 
 -- ---- all keys
 

@@ -8,10 +8,7 @@ use Rattle.cells.proofs.Below.{tab}
 use Rattle.cells.proofs.Laws.{LowCells, step2-law, step3-law, xor-low, small-low}
 use Rattle.schedule.specs.declared.Tweakey.{Tweakey}
 use Rattle.schedule.specs.Schedule.{keyCell, roundKey, permutedWords, stepped, nextCells, advance}
-
--- where the cell at j of the permuted words comes from: the words of the numbers 0 to 47, permuted, say it
-abbrev origin : Words → ℕ → ℕ
-origin n j = getD (permutedWords n (tab (λ (k : ℕ). k) 0 48)) j 0
+use Rattle.schedule.proofs.Trails.{origin}
 
 module _ (w : Width) where
   -- a list of m values of f, as the permuted words and a round's key are

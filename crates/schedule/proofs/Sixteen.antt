@@ -3,12 +3,12 @@
 -- of the words' sums, moved. Assumes nothing.
 use mathlib.Core.Path.{_≡_, refl, sym, ap, _∙_, subst⁻¹}
 use Prim.Native.Nat.{ℕ, zero, suc, _+_, _*_, _<_}
-use lib.Bits.{bitXor}
-use lib.Dec.{ltb, ltb→lt}
 use mathlib.Core.List.{List, [], _∷_}
 use native.Mathlib.Numerals.{add-one}
 use native.Mathlib.Omega.{arith}
 use borrow.Author.Count.{below-none, below-more}
+use lib.Bits.{bitXor}
+use lib.Dec.{ltb, ltb→lt}
 use lib.ListN.{length, getD}
 use lib.Seq.{ext-getD}
 use Rattle.cells.specs.Cells.{Width, Words, Two, Three}
@@ -25,7 +25,7 @@ module _ (w : Width) where
   long Two t m = refl
   long Three t m = refl
 
-  -- the cells' trails over sixteen rounds
+  -- the cells' trails over sixteen rounds, computed
   trails : (n : Words) (t : List ℕ) → tab (trail w n 16 t) 0 48 ≡ standing w n 8 t
   unfolding standing
   trails Two t = refl
@@ -37,6 +37,7 @@ module _ (w : Width) where
       (λ j h. let l : j < 48 = omega (arith, long n t 15) in on-trail w n 16 t j l ∙ sym (table (trail w n 16 (t .cells)) 48 j l))
       ∙ trails n (t .cells)
 
+  -- the theorem: the tweakey sixteen rounds on
   pub sixteen : (n : Words) (t : Tweakey) → advance w n 16 t ≡ record { cells = standing w n 8 (t .cells); at = t .at + 16 }
   sixteen n t = λ i. record { cells = sixteen-cells n t i; at = advance-at w n 16 t i }
 
@@ -75,7 +76,9 @@ module _ (w : Width) where
   key-cell : (n : Words) (m : ℕ) (t : Tweakey) (j : ℕ) → j < 8 → keyCell n ((advance w n m t) .cells) j ≡ trailKey w n m (t .cells) j
   key-cell Two m t j h = λ i. bitXor (on-trail w Two m t j (omega arith) i) (on-trail w Two m t (16 + j) (omega arith) i)
   key-cell Three m t j h =
-      λ i. bitXor (bitXor (on-trail w Three m t j (omega arith) i) (on-trail w Three m t (16 + j) (omega arith) i)) (on-trail w Three m t (32 + j) (omega arith) i)
+      λ i. bitXor
+      (bitXor (on-trail w Three m t j (omega arith) i) (on-trail w Three m t (16 + j) (omega arith) i))
+      (on-trail w Three m t (32 + j) (omega arith) i)
 
   key-trail : (n : Words) (m : ℕ) (t : Tweakey) → roundKey n ((advance w n m t) .cells) ≡ tab (trailKey w n m (t .cells)) 0 8
   unfolding roundKey
@@ -85,6 +88,7 @@ module _ (w : Width) where
   abbrev sumRow : Words → List ℕ → ℕ → List ℕ
   sumRow n t k = tab (keyCell n (standing w n (suc k) t)) 0 16
 
+  -- moved, its halves are two keys: computed for each of the eight rows
   first-trail : (n : Words) (t : List ℕ) (k : ℕ) → k < 8 → lower (moved (k + 1) (sumRow n t k)) ≡ tab (trailKey w n (2 * k + 1) t) 0 8
   unfolding standing
   first-trail Two t = below-8 _ refl refl refl refl refl refl refl refl
@@ -96,7 +100,9 @@ module _ (w : Width) where
   second-trail Three t = below-8 _ refl refl refl refl refl refl refl refl
 
   -- row k of the sums is moved as its cells say
-  row : {n : Words} {t : List ℕ} {sums : List (List ℕ)} → Sums w n t sums → (k : ℕ) → k < 8 → moved (k + 1) (getD sums k []) ≡ moved (k + 1) (sumRow n t k)
+  row
+      : {n : Words} {t : List ℕ} {sums : List (List ℕ)}
+      → Sums w n t sums → (k : ℕ) → k < 8 → moved (k + 1) (getD sums k []) ≡ moved (k + 1) (sumRow n t k)
   row {n} {t} {sums} s k h =
       subst⁻¹ (λ (m : ℕ). moved m (getD sums k []) ≡ moved m (sumRow n t k)) (add-one k)
       (moved-same (getD sums k []) (sumRow n t k) (λ j p. s .at k j h p ∙ sym (table (keyCell n (standing w n (suc k) t)) 16 j p)) k)

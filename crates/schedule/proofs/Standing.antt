@@ -9,10 +9,11 @@ use native.Mathlib.Omega.{arith}
 use lib.Bits.{bitXor}
 use lib.ListN.{length, getD, set, replicate, length-set, length-map, List·getD-map, getD-replicate}
 use lib.Seq.{getD-set-same, getD-set-other, set-getD, map-set-same, ext-getD}
-use Rattle.cells.specs.Cells.{Width, Words, Two, Three, step2, step3}
+use Rattle.cells.specs.Cells.{Width, Words, Two, Three, step2}
 use Rattle.cells.proofs.Below.{tab, table}
 use Rattle.schedule.specs.Schedule.{keyCell}
 use Rattle.schedule.specs.Sixteen.{standing, Sums}
+use Rattle.schedule.proofs.Trails.{stepIn}
 
 -- ---- columns
 
@@ -24,11 +25,6 @@ pub record Column (f g : ℕ → ℕ) (d c : List ℕ) (l : ℕ) : Type 0 where
 
 abbrev Same : List ℕ → List ℕ → ℕ → Type 0
 Same = Column (λ x. x) (λ x. x)
-
--- what a step makes of a cell of word 3: nothing where there is no such word
-abbrev pub third : Width → Words → ℕ → ℕ
-third w Two x = x
-third w Three x = step3 w x
 
 -- what antt computes at each of sixteen places
 agree : (f g : ℕ → ℕ) → tab f 0 16 ≡ tab g 0 16 → (l : ℕ) → l < 16 → f l ≡ g l
@@ -56,7 +52,7 @@ standing-none w Three t = columns _ _ _ t refl refl refl
 -- and after one more
 standing-more
     : (w : Width) (n : Words) (k : ℕ) (t : List ℕ) (l : ℕ) → l < 16
-    → Column (step2 w) (third w n) (standing w n k t) (standing w n (suc k) t) l
+    → Column (step2 w) (stepIn w n 2) (standing w n k t) (standing w n (suc k) t) l
 unfolding standing
 standing-more w Two k t = columns _ _ _ (standing w Two (suc k) t) refl refl refl
 standing-more w Three k t = columns _ _ _ (standing w Three (suc k) t) refl refl refl
@@ -115,7 +111,7 @@ set-both-other c i j a b p x y = getD-set-other (set c i a) j p b 0 y ∙ getD-s
 module _ {w : Width} {n : Words} {t : List ℕ} {j k : ℕ} {c : List ℕ} {sums : List (List ℕ)} (s : Stood w n t j k c sums) where
   -- a turn
   pub stood-more
-      : {a b : ℕ} → j < 16 → k < 8 → a ≡ step2 w (getD c (16 + j) 0) → b ≡ third w n (getD (set c (16 + j) a) (32 + j) 0)
+      : {a b : ℕ} → j < 16 → k < 8 → a ≡ step2 w (getD c (16 + j) 0) → b ≡ stepIn w n 2 (getD (set c (16 + j) a) (32 + j) 0)
       → let d = set (set c (16 + j) a) (32 + j) b in Stood w n t j (k + 1) d (set sums k (set (getD sums k []) j (keyCell n d j)))
   stood-more {a} {b} hj hk ea eb =
       let c₁ = set c (16 + j) a in
@@ -133,7 +129,7 @@ module _ {w : Width} {n : Words} {t : List ℕ} {j k : ℕ} {c : List ℕ} {sums
             ∙ getD-set-same c (16 + j) a 0 (omega (arith, s .long)) ∙ ea ∙ ap (step2 w) (o .two) ∙ sym (q .two);
         three =
             getD-set-same c₁ (32 + j) b 0 (omega arith) ∙ eb
-            ∙ ap (third w n) (getD-set-other c (16 + j) (32 + j) a 0 (omega arith) ∙ o .three) ∙ sym (q .three);
+            ∙ ap (stepIn w n 2) (getD-set-other c (16 + j) (32 + j) a 0 (omega arith) ∙ o .three) ∙ sym (q .three);
       } in
       let rows : length sums ≡ 8 = sym (length-map sums length) ∙ ap length (s .room) in
       let wide : length row ≡ 16 = sym (List·getD-map length sums k []) ∙ rw (s .room) (getD-replicate 8 k 16 0 hk) in

@@ -1,7 +1,6 @@
 -- Where a cell of the tweakey comes from, so many rounds on: its trail. Over the width and the number of words. Assumes nothing.
-use mathlib.Core.Path.{_≡_, refl, sym, ap, _∙_}
-use mathlib.Core.Bool.{Bool}
-use Prim.Native.Nat.{ℕ, zero, suc, _+_, _<_, _/_, _%_}
+use mathlib.Core.Path.{_≡_, refl, ap, _∙_}
+use Prim.Native.Nat.{ℕ, zero, suc, _<_, _/_, _%_}
 use mathlib.Core.List.{List}
 use lib.Dec.{ltb, ltb→lt}
 use lib.ListN.{getD}
@@ -10,7 +9,7 @@ use Rattle.cells.proofs.Below.{below, tab, table}
 use Rattle.schedule.specs.declared.Tweakey.{Tweakey}
 use Rattle.schedule.specs.Schedule.{permutedWords, stepped, nextCells, advance}
 
--- a cell of a word, stepped as this word is
+-- a cell of a word, stepped as this word is: word 1 is not, nor is a word that is not there
 abbrev pub stepIn : Width → Words → ℕ → ℕ → ℕ
 stepIn w n zero x = x
 stepIn w n (suc zero) x = step2 w x

@@ -1,6 +1,7 @@
 // The tweakey, how it goes sixteen rounds on at once, the keys that the rounds take of it, and the round constants.
 // Two rounds step every cell of words 2 and 3 once, and move the cells of a word's upper half and of its lower half among
 // themselves; after sixteen rounds each stands where it stood. So cells are stepped where they stand, and only a key is moved.
+// A room for round keys has 97 rows: the first round's, and six times sixteen, for the 87 rounds of the longest cipher.
 ghost use mathlib.Core.Path.{_≡_};
 ghost use Prim.Native.Nat.{_+_, _*_, _<_, _≤_};
 ghost use mathlib.Core.List.{map};
@@ -18,8 +19,9 @@ pub struct Tweakey {
 
 // ---- sixteen rounds on
 
-// The cells of 64-192 stepped eight times where they stand; after each step, the words xored are a row of sums.
-fn stepped_64_192(sums: &mut [[u8; 16]; 8], t: [u8; 48]) -> [u8; 48]
+// The cells of words 2 and 3 of 64-192 stepped eight times where they stand; after each step, the words xored are a row of sums. (One loop
+// over the cells with all steps inside: so the compiler works sixteen at once.)
+fn eight_steps_64_192(sums: &mut [[u8; 16]; 8], t: [u8; 48]) -> [u8; 48]
     requires { ⌜ map length (now sums) ≡ replicate 8 16 ⌝ }
     ensures { λ r. ⌜ (r ≡ standing Nibble Three 8 t) × Sums Nibble Three t (now (sums .exit)) ⌝ }
 {
@@ -35,7 +37,7 @@ fn stepped_64_192(sums: &mut [[u8; 16]; 8], t: [u8; 48]) -> [u8; 48]
 }
 
 // The same for 128-256.
-fn stepped_128_256(sums: &mut [[u8; 16]; 8], t: [u8; 48]) -> [u8; 48]
+fn eight_steps_128_256(sums: &mut [[u8; 16]; 8], t: [u8; 48]) -> [u8; 48]
     requires { ⌜ map length (now sums) ≡ replicate 8 16 ⌝ }
     ensures { λ r. ⌜ (r ≡ standing Byte Two 8 t) × Sums Byte Two t (now (sums .exit)) ⌝ }
 {
@@ -75,7 +77,7 @@ fn moved_once(s: [u8; 16]) -> [u8; 16]
     ]
 }
 
-// Where n times two rounds do. (Every caller says n, so the compiler makes one move of them.)
+// Where n times two rounds move them. (n is written out where it is asked for, so the compiler makes one move of n.)
 fn moved_by(n: usize, s: [u8; 16]) -> [u8; 16]
     ensures { λ r. ⌜ r ≡ moved n s ⌝ }
 {
@@ -104,14 +106,15 @@ fn lay_two(keys: &mut [[u8; 8]; 97], at: usize, k: usize, sum: [u8; 16])
     lay_pair(keys, at + 2 * k + 1, moved_by(k + 1, sum));
 }
 
-// The tweakey of 64-192 goes sixteen rounds on, and the keys of these rounds are laid. (Eight calls and no loop: so the compiler knows each move.)
+// The tweakey of 64-192 goes sixteen rounds on, and the keys of these rounds are laid. (Eight calls, here and not in a function for both
+// ciphers, and no loop: so the compiler knows each move and keeps the sums in registers.)
 fn sixteen_on_64_192(keys: &mut [[u8; 8]; 97], t: Tweakey) -> Tweakey
     requires { ⌜ (t .at < 81) × (length (now keys) ≡ 97) ⌝ }
     ensures { λ r. ⌜ (r ≡ advance Nibble Three 16 t) × Laid Nibble Three t 16 (now (keys .entry)) (now (keys .exit)) ⌝ }
 {
     let mut sums = [[0u8; 16]; 8];
     let c = t.cells;
-    let d = stepped_64_192(&mut sums, c);
+    let d = eight_steps_64_192(&mut sums, c);
     let at = t.at;
     lay_two(keys, at, 0, sums[0]);
     lay_two(keys, at, 1, sums[1]);
@@ -134,7 +137,7 @@ fn sixteen_on_128_256(keys: &mut [[u8; 8]; 97], t: Tweakey) -> Tweakey
 {
     let mut sums = [[0u8; 16]; 8];
     let c = t.cells;
-    let d = stepped_128_256(&mut sums, c);
+    let d = eight_steps_128_256(&mut sums, c);
     let at = t.at;
     lay_two(keys, at, 0, sums[0]);
     lay_two(keys, at, 1, sums[1]);
