@@ -11,7 +11,7 @@ use lib.ListN.{length, getD, set, length-set}
 use lib.Seq.{getD-set-same, getD-set-other}
 use Rattle.cells.specs.Cells.{Width, Words}
 use Rattle.schedule.specs.declared.Tweakey.{Tweakey}
-use Rattle.schedule.specs.Schedule.{keyCells, roundKey, advance, RoundKeys}
+use Rattle.schedule.specs.Schedule.{keyRow, roundKey, advance, RoundKeys}
 use Rattle.schedule.specs.Sixteen.{Sums, moved, pairLaid, Laid}
 use Rattle.schedule.proofs.Places.{advance-at, advance-add}
 use Rattle.schedule.proofs.Sixteen.{first-key, second-key}
@@ -115,11 +115,11 @@ module _ {w : Width} {n : Words} {t u : Tweakey} {keys : List (List ℕ)} (s : K
     on = turn-at w n u v e
 
   -- the first key, behind the loop
-  pub keys-all : {m : ℕ} {keys′ : List (List ℕ)} → t .at ≡ 0 → m ≤ u .at + 1 → keys′ ≡ set keys 0 (keyCells n (t .cells)) → RoundKeys w n m t keys′
+  pub keys-all : {m : ℕ} {keys′ : List (List ℕ)} → t .at ≡ 0 → m ≤ u .at + 1 → keys′ ≡ set keys 0 (keyRow n (t .cells)) → RoundKeys w n m t keys′
   unfolding roundKey advance
   keys-all {m} {keys′} z h e = record { first = z; at = laid } where
     laid : (k : ℕ) → k < m → getD keys′ k [] ≡ keyAt w n t k
-    laid zero p = ap (λ (l : List (List ℕ)). getD l 0 []) e ∙ getD-set-same keys 0 (keyCells n (t .cells)) [] (omega (arith, s .long))
+    laid zero p = ap (λ (l : List (List ℕ)). getD l 0 []) e ∙ getD-set-same keys 0 (keyRow n (t .cells)) [] (omega (arith, s .long))
     laid (suc k) p =
-        ap (λ (l : List (List ℕ)). getD l (suc k) []) e ∙ getD-set-other keys 0 (suc k) (keyCells n (t .cells)) [] (λ q. omega arith)
+        ap (λ (l : List (List ℕ)). getD l (suc k) []) e ∙ getD-set-other keys 0 (suc k) (keyRow n (t .cells)) [] (λ q. omega arith)
         ∙ s .rows (suc k) (omega arith) (omega arith)

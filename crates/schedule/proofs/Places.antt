@@ -3,7 +3,6 @@ use mathlib.Core.Path.{_≡_, sym, ap, _∙_}
 use Prim.Native.Nat.{ℕ, zero, suc, _+_}
 use native.Mathlib.Nat.{add-zero, add-suc}
 use native.Mathlib.Omega.{arith}
-use native.Mathlib.Numerals.{add-one}
 use Rattle.cells.specs.Cells.{Width, Words}
 use Rattle.schedule.specs.declared.Tweakey.{Tweakey}
 use Rattle.schedule.specs.Schedule.{next, advance}
@@ -12,11 +11,6 @@ pub advance-at : (w : Width) (n : Words) (m : ℕ) (t : Tweakey) → (advance w 
 unfolding advance
 advance-at w n zero t = omega arith
 advance-at w n (suc m) t = let e : (advance w n m t) .at ≡ t .at + m = advance-at w n m t in omega arith
-
--- the clause at the code's `m + 1`
-pub advance-one : (w : Width) (n : Words) (m : ℕ) (t : Tweakey) → advance w n (m + 1) t ≡ next w n (advance w n m t)
-unfolding advance
-advance-one w n m t = ap (λ (k : ℕ). advance w n k t) (add-one m)
 
 pub advance-add : (w : Width) (n : Words) (a b : ℕ) (t : Tweakey) → advance w n b (advance w n a t) ≡ advance w n (a + b) t
 unfolding advance

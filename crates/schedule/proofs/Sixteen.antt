@@ -31,7 +31,7 @@ module _ (w : Width) where
   trails Two t = refl
   trails Three t = refl
 
-  pub sixteen-cells : (n : Words) (t : Tweakey) → (advance w n 16 t) .cells ≡ standing w n 8 (t .cells)
+  sixteen-cells : (n : Words) (t : Tweakey) → (advance w n 16 t) .cells ≡ standing w n 8 (t .cells)
   sixteen-cells n t =
       ext-getD 0 ((advance w n 16 t) .cells) (tab (trail w n 16 (t .cells)) 0 48) (long n t 15)
       (λ j h. let l : j < 48 = omega (arith, long n t 15) in on-trail w n 16 t j l ∙ sym (table (trail w n 16 (t .cells)) 48 j l))

@@ -16,13 +16,13 @@ abbrev pub keyCell : Words → List ℕ → ℕ → ℕ
 keyCell Two t k = bitXor (getD t k 0) (getD t (16 + k) 0)
 keyCell Three t k = bitXor (bitXor (getD t k 0) (getD t (16 + k) 0)) (getD t (32 + k) 0)
 
-abbrev pub keyCells : Words → List ℕ → List ℕ
-keyCells n t =
+abbrev pub keyRow : Words → List ℕ → List ℕ
+keyRow n t =
     keyCell n t 0 ∷ keyCell n t 1 ∷ keyCell n t 2 ∷ keyCell n t 3
     ∷ keyCell n t 4 ∷ keyCell n t 5 ∷ keyCell n t 6 ∷ keyCell n t 7 ∷ []
 
 unfoldable pub roundKey : Words → List ℕ → List ℕ
-roundKey n t = keyCells n t
+roundKey n t = keyRow n t
 
 -- ---- from round to round (01, Tweakey; F.1)
 

@@ -1,7 +1,7 @@
 -- The tweakey sixteen rounds on at once, as the code goes: cells stepped where they stand, and moved only when a key is laid. That
 -- this is what sixteen rounds of the published step do is proved in proofs/Sixteen.antt. Assumes nothing.
 use mathlib.Core.Path.{_≡_}
-use Prim.Native.Nat.{ℕ, zero, suc, _+_, _*_, _<_}
+use Prim.Native.Nat.{ℕ, zero, suc, _+_, _<_}
 use mathlib.Core.List.{List, [], _∷_, _++_, map}
 use lib.ListN.{length, getD, set}
 use Rattle.cells.specs.Cells.{Width, Words, Two, Three, step2, step3}
@@ -18,7 +18,7 @@ unfoldable pub standing : Width → Words → ℕ → List ℕ → List ℕ
 standing w Two k t = unmoved 0 t ++ map (times (step2 w) k) (unmoved 16 t) ++ unmoved 32 t
 standing w Three k t = unmoved 0 t ++ map (times (step2 w) k) (unmoved 16 t) ++ map (times (step3 w) k) (unmoved 32 t)
 
--- row n has the sixteen cells of every word, xored, after n + 1 steps
+-- row k has the sixteen cells of every word, xored, after k + 1 steps
 pub record Sums (w : Width) (n : Words) (t : List ℕ) (sums : List (List ℕ)) : Type 0 where
   pub at : (k j : ℕ) → k < 8 → j < 16 → getD (getD sums k []) j 0 ≡ keyCell n (standing w n (suc k) t) j
 
@@ -28,10 +28,12 @@ movedOnce s =
     getD s 1 0 ∷ getD s 7 0 ∷ getD s 0 0 ∷ getD s 5 0 ∷ getD s 2 0 ∷ getD s 6 0 ∷ getD s 4 0 ∷ getD s 3 0
     ∷ getD s 9 0 ∷ getD s 15 0 ∷ getD s 8 0 ∷ getD s 13 0 ∷ getD s 10 0 ∷ getD s 14 0 ∷ getD s 12 0 ∷ getD s 11 0 ∷ []
 
+-- and k times two rounds
 abbrev pub moved : ℕ → List ℕ → List ℕ
 moved zero s = s
 moved (suc k) s = movedOnce (moved k s)
 
+-- the halves of sixteen cells: the top two rows, and the bottom two
 abbrev pub upper : List ℕ → List ℕ
 upper s = getD s 0 0 ∷ getD s 1 0 ∷ getD s 2 0 ∷ getD s 3 0 ∷ getD s 4 0 ∷ getD s 5 0 ∷ getD s 6 0 ∷ getD s 7 0 ∷ []
 

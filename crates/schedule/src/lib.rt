@@ -8,7 +8,7 @@ ghost use mathlib.Core.List.{map};
 ghost use lib.ListN.{length, set, replicate};
 ghost use Rattle.cells.specs.Cells.{Nibble, Byte, Two, Three, Tabulates};
 ghost use Rattle.schedule.specs.Constants.{constant};
-ghost use Rattle.schedule.specs.Schedule.{keyCells, advance, RoundKeys};
+ghost use Rattle.schedule.specs.Schedule.{keyRow, advance, RoundKeys};
 ghost use Rattle.schedule.specs.Sixteen.{standing, Sums, movedOnce, moved, pairLaid, Laid};
 
 // The tweakey: room for three words of sixteen cells, one after the other, and the number of rounds that it has served.
@@ -155,7 +155,7 @@ fn sixteen_on_128_256(keys: &mut [[u8; 8]; 97], t: Tweakey) -> Tweakey
 
 // The key of the first round of 64-192.
 fn lay_first_64_192(keys: &mut [[u8; 8]; 97], c: [u8; 48])
-    ensures { λ r. ⌜ now (keys .exit) ≡ set (now (keys .entry)) 0 (keyCells Three c) ⌝ }
+    ensures { λ r. ⌜ now (keys .exit) ≡ set (now (keys .entry)) 0 (keyRow Three c) ⌝ }
 {
     keys[0] = [
         c[0] ^ c[16] ^ c[32],
@@ -171,7 +171,7 @@ fn lay_first_64_192(keys: &mut [[u8; 8]; 97], c: [u8; 48])
 
 // The key of the first round of 128-256.
 fn lay_first_128_256(keys: &mut [[u8; 8]; 97], c: [u8; 48])
-    ensures { λ r. ⌜ now (keys .exit) ≡ set (now (keys .entry)) 0 (keyCells Two c) ⌝ }
+    ensures { λ r. ⌜ now (keys .exit) ≡ set (now (keys .entry)) 0 (keyRow Two c) ⌝ }
 {
     keys[0] = [
         c[0] ^ c[16],

@@ -19,31 +19,35 @@ struct Fault {
     make: fn(&mut Call, &Scheme),
 }
 
-const fn fault(number: u32, about: &'static str, make: fn(&mut Call, &Scheme)) -> Fault {
-    Fault {
-        number,
-        about,
-        make,
-    }
+/// A macro, because a constant function may not speak of `&mut` before Rust
+/// 1.83.
+macro_rules! fault {
+    ($number:expr, $about:expr, $make:expr $(,)?) => {
+        Fault {
+            number: $number,
+            about: $about,
+            make: $make,
+        }
+    };
 }
 
 /// Those that are met with others; one of each kind.
 const MET: [Fault; 6] = [
-    fault(UNKNOWN_SCHEME, "no such scheme", |call, _| call.scheme = 4),
-    fault(WRONG_LENGTH, "key of 15 bytes", |call, _| {
+    fault!(UNKNOWN_SCHEME, "no such scheme", |call, _| call.scheme = 4),
+    fault!(WRONG_LENGTH, "key of 15 bytes", |call, _| {
         call.key.truncate(15)
     }),
-    fault(WRONG_LENGTH, "nonce a byte too long", |call, _| {
+    fault!(WRONG_LENGTH, "nonce a byte too long", |call, _| {
         call.nonce.push(0)
     }),
-    fault(TOO_LONG, "header too long", |call, row| {
+    fault!(TOO_LONG, "header too long", |call, row| {
         call.header = vec![FILLING; row.most_bytes() + 1]
     }),
     TEXT_TOO_LONG,
     ROOM_TOO_SHORT,
 ];
 
-const TEXT_TOO_LONG: Fault = fault(TOO_LONG, "body too long", |call, row| {
+const TEXT_TOO_LONG: Fault = fault!(TOO_LONG, "body too long", |call, row| {
     let block = match call.direction {
         Direction::Seal => 0,
         Direction::Open => row.block_bytes,
@@ -51,34 +55,34 @@ const TEXT_TOO_LONG: Fault = fault(TOO_LONG, "body too long", |call, row| {
     call.text = vec![FILLING; row.most_bytes() + block + 1]
 });
 
-const ROOM_TOO_SHORT: Fault = fault(SHORT_ROOM, "no room", |call, _| call.room = 0);
+const ROOM_TOO_SHORT: Fault = fault!(SHORT_ROOM, "no room", |call, _| call.room = 0);
 
 /// Further ones that only an open can have.
 const OPENS: [Fault; 2] = [
-    fault(NOT_AUTHENTIC, "a bit changed", |call, _| call.text[0] ^= 1),
-    fault(NO_BLOCK, "run a byte shorter than a block", |call, row| {
+    fault!(NOT_AUTHENTIC, "a bit changed", |call, _| call.text[0] ^= 1),
+    fault!(NO_BLOCK, "run a byte shorter than a block", |call, row| {
         call.text.truncate(row.block_bytes - 1)
     }),
 ];
 
 /// Further ones that are tried alone.
 const ALONE: [Fault; 8] = [
-    fault(UNKNOWN_SCHEME, "scheme 0", |call, _| call.scheme = 0),
-    fault(
+    fault!(UNKNOWN_SCHEME, "scheme 0", |call, _| call.scheme = 0),
+    fault!(
         UNKNOWN_SCHEME,
         "a known scheme in the low byte alone",
         |call, _| call.scheme += 256,
     ),
-    fault(UNKNOWN_SCHEME, "the highest number", |call, _| {
+    fault!(UNKNOWN_SCHEME, "the highest number", |call, _| {
         call.scheme = u32::MAX
     }),
-    fault(WRONG_LENGTH, "no key", |call, _| call.key.clear()),
-    fault(WRONG_LENGTH, "key of 17 bytes", |call, _| call.key.push(0)),
-    fault(WRONG_LENGTH, "no nonce", |call, _| call.nonce.clear()),
-    fault(WRONG_LENGTH, "nonce a byte too short", |call, _| {
+    fault!(WRONG_LENGTH, "no key", |call, _| call.key.clear()),
+    fault!(WRONG_LENGTH, "key of 17 bytes", |call, _| call.key.push(0)),
+    fault!(WRONG_LENGTH, "no nonce", |call, _| call.nonce.clear()),
+    fault!(WRONG_LENGTH, "nonce a byte too short", |call, _| {
         call.nonce.pop();
     }),
-    fault(WRONG_LENGTH, "key and nonce changed over", |call, _| {
+    fault!(WRONG_LENGTH, "key and nonce changed over", |call, _| {
         std::mem::swap(&mut call.key, &mut call.nonce)
     }),
 ];
