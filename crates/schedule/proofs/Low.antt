@@ -2,7 +2,7 @@
 use Prim.Native.Nat.{ℕ, zero, suc, _+_, _<_}
 use mathlib.Core.List.{List, [], _∷_}
 use native.Mathlib.Omega.{arith}
-use lib.ListN.{getD, set}
+use lib.ListN.{set}
 use Rattle.cells.specs.Cells.{Width, Words, Two, Three, size, step2, step3}
 use Rattle.cells.proofs.Below.{tab}
 use Rattle.cells.proofs.Laws.{LowCells, step2-law, step3-law, xor-low, small-low}

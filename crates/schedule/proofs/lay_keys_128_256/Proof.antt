@@ -33,7 +33,9 @@ lay-first-128-256-requires : tie.Need-lay-first-128-256-requires Inv-loop μ-loo
 lay-first-128-256-requires c κs = tt
 
 returns : tie.Need-returns Inv-loop μ-loop
-returns c = keys-all (c .before .before .before .before .before .loop .inv) (c .before .before .before .before .before .before .pre .1) (omega arith) (c .lay-first-128-256 .ensures)
+returns c =
+    let l = c .before .before .before .before .before in
+    keys-all (l .loop .inv) (l .before .pre .1) (omega arith) (c .lay-first-128-256 .ensures)
 
 pub lay-keys-128-256-spec : {M : Type 1} → statement M
 lay-keys-128-256-spec =

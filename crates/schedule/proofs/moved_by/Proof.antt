@@ -27,7 +27,10 @@ loop-less : tie.Need-loop-less Inv-loop μ-loop
 loop-less c = omega arith
 
 loop-again : tie.Need-loop-again Inv-loop μ-loop
-loop-again c = (omega arith, c .moved-once .ensures ∙ ap movedOnce (c .before .before .loop .inv .1) ∙ ap (λ (k : ℕ). moved k (c .before .before .before .args .s)) (sym (add-one (c .before .before .loop .i))))
+loop-again c =
+    let l = c .before .before in
+    let more = ap (λ (k : ℕ). moved k (l .before .args .s)) (sym (add-one (l .loop .i))) in
+    (omega arith, c .moved-once .ensures ∙ ap movedOnce (l .loop .inv .1) ∙ more)
 
 returns : tie.Need-returns Inv-loop μ-loop
 returns c = c .before .loop .inv .1 ∙ ap (λ (k : ℕ). moved k (c .before .before .args .s)) (le-antisymm (c .before .loop .inv .0) (c .loop-test .left))

@@ -84,8 +84,9 @@ returns c =
     let t = a .args .t in
     let (e, s) = c₀ .eight-steps-128-256 .ensures in (
       (λ i. record { cells = e i; at = t .at + 16 }) ∙ sym (sixteen Byte Two t),
-      laid-sixteen s (omega (arith, a .pre .0, a .pre .1)) (c₁ .lay-two .ensures) (c₂ .lay-two2 .ensures) (c₃ .lay-two3 .ensures) (c₄ .lay-two4 .ensures) (c₅ .lay-two5 .ensures)
-          (c₆ .lay-two6 .ensures) (c₇ .lay-two7 .ensures) (c .lay-two8 .ensures),
+      laid-sixteen s (omega (arith, a .pre .0, a .pre .1))
+          (c₁ .lay-two .ensures) (c₂ .lay-two2 .ensures) (c₃ .lay-two3 .ensures) (c₄ .lay-two4 .ensures)
+          (c₅ .lay-two5 .ensures) (c₆ .lay-two6 .ensures) (c₇ .lay-two7 .ensures) (c .lay-two8 .ensures),
     )
 
 pub sixteen-on-128-256-spec : {M : Type 1} → statement M
