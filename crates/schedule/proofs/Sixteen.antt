@@ -8,16 +8,15 @@ use native.Mathlib.Numerals.{add-one}
 use native.Mathlib.Omega.{arith}
 use borrow.Author.Count.{below-none, below-more}
 use lib.Bits.{bitXor}
-use lib.Dec.{ltb, ltb→lt}
 use lib.ListN.{length, getD}
 use lib.Seq.{ext-getD}
 use Rattle.cells.specs.Cells.{Width, Words, Two, Three}
-use Rattle.cells.proofs.Below.{below, tab, table}
+use Rattle.cells.proofs.Below.{tab, table}
 use Rattle.schedule.specs.declared.Tweakey.{Tweakey}
 use Rattle.schedule.specs.Schedule.{keyCell, roundKey, stepped, nextCells, advance}
 use Rattle.schedule.specs.Sixteen.{standing, Sums, movedOnce, moved, upper, lower}
 use Rattle.schedule.proofs.Places.{advance-at}
-use Rattle.schedule.proofs.Trails.{trail, on-trail}
+use Rattle.schedule.proofs.Trails.{trail, stays, on-trail}
 
 module _ (w : Width) where
   long : (n : Words) (t : Tweakey) (m : ℕ) → length ((advance w n (suc m) t) .cells) ≡ 48
@@ -52,12 +51,9 @@ tab-same f g (suc n) i e = λ k. e i (omega arith) k ∷ tab-same f g n (suc i) 
 abbrev place : ℕ → ℕ
 place j = getD (movedOnce (tab (λ (k : ℕ). k) 0 16)) j 0
 
-place-low : (j : ℕ) → j < 16 → place j < 16
-place-low j h = ltb→lt (place j) 16 (below (λ (i : ℕ). ltb (place i) 16) 16 tt j h)
-
 -- what is moved is the first sixteen cells
 moved-same : (s s′ : List ℕ) → ((j : ℕ) → j < 16 → getD s j 0 ≡ getD s′ j 0) → (k : ℕ) → moved (suc k) s ≡ moved (suc k) s′
-moved-same s s′ e zero = tab-same (λ (j : ℕ). getD s (place j) 0) (λ (j : ℕ). getD s′ (place j) 0) 16 0 (λ j h. e (place j) (place-low j h))
+moved-same s s′ e zero = tab-same (λ (j : ℕ). getD s (place j) 0) (λ (j : ℕ). getD s′ (place j) 0) 16 0 (λ j h. e (place j) (stays place 16 tt j h))
 moved-same s s′ e (suc k) = ap movedOnce (moved-same s s′ e k)
 
 -- the round key, by its cells' trails

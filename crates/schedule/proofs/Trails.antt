@@ -2,10 +2,10 @@
 use mathlib.Core.Path.{_≡_, refl, ap, _∙_}
 use Prim.Native.Nat.{ℕ, zero, suc, _<_, _/_, _%_}
 use mathlib.Core.List.{List}
-use lib.Dec.{ltb, ltb→lt}
+use lib.Dec.{T, ltb, ltb→lt}
 use lib.ListN.{getD}
 use Rattle.cells.specs.Cells.{Width, Words, Two, Three, step2, step3}
-use Rattle.cells.proofs.Below.{below, tab, table}
+use Rattle.cells.proofs.Below.{every, below, tab, table}
 use Rattle.schedule.specs.declared.Tweakey.{Tweakey}
 use Rattle.schedule.specs.Schedule.{permutedWords, stepped, nextCells, advance}
 
@@ -33,6 +33,10 @@ abbrev pub trail : Width → Words → ℕ → List ℕ → ℕ → ℕ
 trail w n zero t j = getD t j 0
 trail w n (suc m) t j = arrived w n j (trail w n m t (origin n j))
 
+-- what stays below n at every number below n, by one computed test
+pub stays : (f : ℕ → ℕ) (n : ℕ) → T (every (λ (i : ℕ). ltb (f i) n) 0 n) → (j : ℕ) → j < n → f j < n
+stays f n t j h = ltb→lt (f j) n (below (λ (i : ℕ). ltb (f i) n) n t j h)
+
 module _ (w : Width) where
   -- a round, cell by cell
   next-cells : (n : Words) (t : List ℕ) → nextCells w n t ≡ tab (trail w n 1 t) 0 48
@@ -41,8 +45,8 @@ module _ (w : Width) where
   next-cells Three t = refl
 
   origin-low : (n : Words) (j : ℕ) → j < 48 → origin n j < 48
-  origin-low Two j h = ltb→lt (origin Two j) 48 (below (λ (i : ℕ). ltb (origin Two i) 48) 48 tt j h)
-  origin-low Three j h = ltb→lt (origin Three j) 48 (below (λ (i : ℕ). ltb (origin Three i) 48) 48 tt j h)
+  origin-low Two = stays (origin Two) 48 tt
+  origin-low Three = stays (origin Three) 48 tt
 
   -- each cell is where its trail says
   pub on-trail : (n : Words) (m : ℕ) (t : Tweakey) (j : ℕ) → j < 48 → getD ((advance w n m t) .cells) j 0 ≡ trail w n m (t .cells) j

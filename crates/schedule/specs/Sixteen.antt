@@ -6,7 +6,7 @@ use mathlib.Core.List.{List, [], _∷_, _++_, map}
 use lib.ListN.{length, getD, set}
 use Rattle.cells.specs.Cells.{Width, Words, Two, Three, step2, step3}
 use Rattle.schedule.specs.declared.Tweakey.{Tweakey}
-use Rattle.schedule.specs.Schedule.{unmoved, keyCell, roundKey, advance}
+use Rattle.schedule.specs.Schedule.{permuted, unmoved, keyCell, roundKey, advance}
 
 -- f so many times
 abbrev pub times : (ℕ → ℕ) → ℕ → ℕ → ℕ
@@ -22,11 +22,9 @@ standing w Three k t = unmoved 0 t ++ map (times (step2 w) k) (unmoved 16 t) ++ 
 pub record Sums (w : Width) (n : Words) (t : List ℕ) (sums : List (List ℕ)) : Type 0 where
   pub at : (k j : ℕ) → k < 8 → j < 16 → getD (getD sums k []) j 0 ≡ keyCell n (standing w n (suc k) t) j
 
--- where two rounds move the cells of a word: those of the upper half, the top two rows, and those of the lower half among themselves
+-- where two rounds move the cells of a word: the permutation twice, which keeps the upper half and the lower half apart
 abbrev pub movedOnce : List ℕ → List ℕ
-movedOnce s =
-    getD s 1 0 ∷ getD s 7 0 ∷ getD s 0 0 ∷ getD s 5 0 ∷ getD s 2 0 ∷ getD s 6 0 ∷ getD s 4 0 ∷ getD s 3 0
-    ∷ getD s 9 0 ∷ getD s 15 0 ∷ getD s 8 0 ∷ getD s 13 0 ∷ getD s 10 0 ∷ getD s 14 0 ∷ getD s 12 0 ∷ getD s 11 0 ∷ []
+movedOnce s = permuted 0 (permuted 0 s)
 
 -- and k times two rounds
 abbrev pub moved : ℕ → List ℕ → List ℕ
