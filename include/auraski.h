@@ -23,9 +23,9 @@
 #include <stdint.h>
 
 /* The same as `pkg-config --modversion auraski` says. */
-#define AURASKI_VERSION "0.2.0"
+#define AURASKI_VERSION "0.3.0"
 #define AURASKI_VERSION_MAJOR 0
-#define AURASKI_VERSION_MINOR 2
+#define AURASKI_VERSION_MINOR 3
 #define AURASKI_VERSION_PATCH 0
 
 /* A call takes at most so many bytes of stack, its arguments included, whatever the record's length. This is measured, not proved, with the
@@ -78,25 +78,28 @@ extern "C" {
 #define AURASKI_PAEF_128_256_LIMIT 131056u
 #define AURASKI_SAEF_128_256_LIMIT 131056u
 
-/* Answers. The checks are made in the order 1 to 6, and the first that applies answers; if none does, it is 0. */
+/* Answers, in the order of the checks: the first that applies answers, and if none does, it is 0. So a number also says that all before
+ * it was right. */
+#define AURASKI_UNKNOWN 1u            /* no such scheme (block calls: no such cipher, half or choice) */
+#define AURASKI_WRONG_KEY_LENGTH 2u   /* the key's length is not the scheme's */
+#define AURASKI_WRONG_NONCE_LENGTH 7u /* the nonce's length is not the scheme's */
+#define AURASKI_HEADER_TOO_LONG 3u    /* the header is longer than the scheme takes */
+#define AURASKI_BODY_TOO_LONG 8u      /* the body is longer than the scheme takes (open: the run less a block) */
+#define AURASKI_TOO_SHORT 4u          /* open: the sealed run is shorter than a block */
+#define AURASKI_ROOM 5u               /* the room is shorter than the output; one of exactly its length is enough */
+#define AURASKI_FORGED 6u             /* open: not authentic: no body seals to this run under this key, nonce and header */
 #define AURASKI_DONE 0u
-#define AURASKI_UNKNOWN 1u      /* no such scheme (block calls: no such cipher, half or choice) */
-#define AURASKI_KEY_OR_NONCE 2u /* the key's or the nonce's length is not the scheme's */
-#define AURASKI_TOO_LONG 3u     /* the header or the body is longer than the scheme takes (open: the run less a block) */
-#define AURASKI_TOO_SHORT 4u    /* open: the sealed run is shorter than a block */
-#define AURASKI_ROOM 5u         /* the room is shorter than the output; one of exactly its length is enough */
-#define AURASKI_FORGED 6u       /* open: not authentic: no body seals to this run under this key, nonce and header */
 
 /* Seals a body under a header. The sealed run has body_len and a block of bytes. With 0 it goes to the front of the room and its length
- * to *length; the rest of the room is unchanged. Refused with 1, 2, 3 or 5: *length is 0, the room unchanged. */
+ * to *length; the rest of the room is unchanged. Refused with 1, 2, 7, 3, 8 or 5: *length is 0, the room unchanged. */
 uint32_t auraski_seal(uint32_t scheme, const uint8_t *key, size_t key_len, const uint8_t *nonce, size_t nonce_len,
                       const uint8_t *header, size_t header_len, const uint8_t *body, size_t body_len, uint8_t *room,
                       size_t room_len, size_t *length) AURASKI_CHECKED;
 
 /* Opens a sealed run. The body has sealed_len less a block of bytes. With 0 it goes to the front of the room and its length, which may
- * be 0, to *length; the rest of the room is unchanged. Refused with 1, 2, 3, 4 or 5: *length is 0, the room unchanged. Refused with 6:
- * *length is 0, zeros where the body would have been, the rest unchanged. Only the answer 0 says that a run is authentic, and until the
- * call returns the room may hold what is not. */
+ * be 0, to *length; the rest of the room is unchanged. Refused with 1, 2, 7, 3, 8, 4 or 5: *length is 0, the room unchanged. Refused
+ * with 6: *length is 0, zeros where the body would have been, the rest unchanged. Only the answer 0 says that a run is authentic, and
+ * until the call returns the room may hold what is not. */
 uint32_t auraski_open(uint32_t scheme, const uint8_t *key, size_t key_len, const uint8_t *nonce, size_t nonce_len,
                       const uint8_t *header, size_t header_len, const uint8_t *sealed, size_t sealed_len, uint8_t *room,
                       size_t room_len, size_t *length) AURASKI_CHECKED;

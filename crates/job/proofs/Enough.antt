@@ -1,24 +1,21 @@
--- A room of 16,384 bytes is enough for every job, and no section of a job is above a scheme's limits: 3 and 5 are never answered.
--- Assumes nothing.
-use mathlib.Core.Path.{_≡_, refl, _∙_}
-use mathlib.Core.Bool.{Bool, false, not}
+-- A room of 16,384 bytes is enough for every job, and no section of a job is above a scheme's limits: 3, 8 and 5 are never answered, by
+-- what these numbers say of the lengths (sealing's proofs/Numbers.antt). Assumes nothing.
+use mathlib.Core.Path.{_≡_, refl}
+use mathlib.Core.Bool.{Bool, true, false, cond}
 use mathlib.Core.List.{List}
-use Prim.Native.Nat.{ℕ, zero, suc, _+_, _-_, _≤_, _<_}
+use Prim.Native.Nat.{ℕ, zero, suc, _+_, _≤_}
 use native.Mathlib.Omega.{arith}
-use borrow.Author.Tests.{eqb-true, eqb-false, ltb-true, not-false}
-use lib.Dec.{eqb, ltb}
+use lib.Dec.{eqb}
 use lib.ListN.{length, getD, length-drop}
-use Rattle.ciphers.specs.Ciphers.{blockOf}
+use borrow.Author.Tests.{eqb-false}
 use Rattle.ciphers.proofs.Laws.{block-most}
 use Rattle.sealing.specs.declared.schemes.Scheme.{Scheme}
-use Rattle.sealing.specs.declared.schemes.Named.{Named}
-use Rattle.sealing.specs.declared.schemes.Named.the-variants.{Known, Unknown}
+use Rattle.sealing.specs.declared.schemes.Named.the-variants.{Known}
 use Rattle.sealing.specs.Schemes.{schemeOf}
-use Rattle.sealing.specs.Checks.{checkOf}
-use Rattle.sealing.specs.Calls.{Told, under, opened, sealUnder, openUnder, sealOf, openOf}
+use Rattle.sealing.specs.Calls.{Told, refused}
+use Rattle.sealing.specs.Numbers.{answered, bodyIn, moreIn}
+use Rattle.sealing.proofs.Numbers.{says-3, says-5, says-8}
 use Rattle.sealing.proofs.Table.{each-named}
-use Rattle.cells.proofs.Choice.{chosen, either}
-use Rattle.sealing.proofs.Ways.{passed-all}
 use Rattle.job.specs.Sections.{sectionOf}
 use Rattle.job.specs.Job.{isSound, jobOf, directed, fromKey, fromNonce, fromHeader, fromBody}
 use Rattle.job.proofs.Soundness.{Sound, sound, sound-front}
@@ -37,101 +34,82 @@ wide =
     (record { key = refl; header = omega arith; body = omega arith })
     (record { key = refl; header = omega arith; body = omega arith })
 
--- the sections of a sound job, and the ten bytes around them, are no longer than it
-all-of : (job : List ℕ) → Sound job
-    → 10 + length (sectionOf (fromKey job)) + length (sectionOf (fromNonce job)) + length (sectionOf (fromHeader job)) + length (sectionOf (fromBody job)) ≤ 16384
-all-of job w =
-    let k = behind-length (fromKey job) (w .key) in
-    let n = behind-length (fromNonce job) (w .nonce) in
-    let h = behind-length (fromHeader job) (w .header) in
-    let b = behind-length (fromBody job) (w .body) in
-    let f = sound-front job w in
-    omega (arith, k, n, h, b, f, length-drop 2 job, w .short)
+-- a body is no longer than the input, and an output by sixteen bytes at most
+body-most : (opens : Bool) (s : Scheme) (l : ℕ) → bodyIn opens s l ≤ l
+body-most false s l = omega arith
+body-most true s l = omega arith
 
--- ---- any property of numbers, where it holds of those that a job can get, and of 5 if the room is too small
+output-most : (opens : Bool) (s : Scheme) (l : ℕ) → bodyIn opens s l + moreIn opens s ≤ l + 16
+output-most false s l = omega (arith, block-most (s .cipher))
+output-most true s l = omega arith
 
-module _
-    (P : ℕ → Type 0)
-    (p0 : P 0)
-    (p1 : P 1)
-    (p2 : P 2)
-    (p4 : P 4)
-    (p6 : P 6)
-    (p9 : P 9)
-    (room : List ℕ)
-    (p5 : length room < 16384 → P 5)
-  where
-    -- a key of sixteen bytes is part of a job whose body comes so far
-    module _ (s : Scheme) (w : Wide s) (key nonce header body : ℕ) (short : Bool) (more : ℕ) where
-      checked : header ≤ 16384 → body ≤ 16384 → (key ≡ 16 → body + more ≤ 16384)
-          → P (checkOf s key nonce header body short more (length room))
-      unfolding checkOf
-      checked h b r =
-          chosen P (not (eqb key (s .key))) 2 _ (λ _. p2) λ k.
-          chosen P (not (eqb nonce (s .nonce))) 2 _ (λ _. p2) λ _.
-          chosen P (ltb (s .header) header) 3 _ (λ e. absurd (omega (arith, ltb-true (s .header) header e, w .header))) λ _.
-          chosen P (ltb (s .body) body) 3 _ (λ e. absurd (omega (arith, ltb-true (s .body) body e, w .body))) λ _.
-          chosen P short 4 _ (λ _. p4) λ _.
-          chosen P (ltb (length room) (body + more)) 5 0
-          (λ e.
-          p5 (omega (arith, ltb-true (length room) (body + more) e, r (eqb-true key (s .key) (not-false _ k) ∙ w .key))))
-          (λ _. p0)
+-- ---- the sections of a job
 
-    abbrev Told-so : Told → Type 0
-    Told-so t = P (t .number)
+module _ (job : List ℕ) where
+  abbrev key : List ℕ
+  key = sectionOf (fromKey job)
 
-    under-so : (m : Named) (f : Scheme → Told) → ((s : Scheme) → m ≡ Known s → Told-so (f s)) → Told-so (under m f room)
-    under-so (Known s) f p = p s refl
-    under-so Unknown f p = p1
+  abbrev nonce : List ℕ
+  nonce = sectionOf (fromNonce job)
 
-    module _
-        (scheme : ℕ)
-        (key nonce header body : List ℕ)
-        (h : length header ≤ 16384)
-        (b : length body ≤ 16384)
-        (r : length key ≡ 16 → length body + 16 ≤ 16384)
-      where
-        seal-so : Told-so (sealOf scheme key nonce header body room)
-        unfolding sealOf sealUnder
-        seal-so =
-            under-so (schemeOf scheme) _ λ s e.
-            passed-all Told-so _ _ room
-            p0
-            (checked s (wide scheme s e) (length key) (length nonce) (length header) (length body) false (blockOf (s .cipher))
-            h b (λ k. omega (arith, r k, block-most (s .cipher))))
+  abbrev header : List ℕ
+  header = sectionOf (fromHeader job)
 
-        open-so : Told-so (openOf scheme key nonce header body room)
-        unfolding openOf openUnder
-        open-so =
-            under-so (schemeOf scheme) _ λ s e.
-            passed-all Told-so _ _ room
-            (either Told-so (opened s key nonce header body .authentic) _ _ p0 p6)
-            (checked s (wide scheme s e) (length key) (length nonce) (length header) (length body - blockOf (s .cipher))
-            (ltb (length body) (blockOf (s .cipher))) 0 h (omega arith) (λ k. omega (arith, r k)))
+  abbrev body : List ℕ
+  body = sectionOf (fromBody job)
 
-        directed-so : (d : ℕ) → Told-so (directed d scheme key nonce header body room)
-        directed-so zero = seal-so
-        directed-so (suc d) = open-so
+  abbrev scheme : ℕ
+  scheme = getD job 0 0
 
-    pub job-so : (job : List ℕ) → P (jobOf job room .number)
+  -- those of a sound job, and the ten bytes around them, are no longer than it
+  all-of : Sound job → 10 + length key + length nonce + length header + length body ≤ 16384
+  all-of w =
+      let k = behind-length (fromKey job) (w .key) in
+      let n = behind-length (fromNonce job) (w .nonce) in
+      let h = behind-length (fromHeader job) (w .header) in
+      let b = behind-length (fromBody job) (w .body) in
+      let f = sound-front job w in
+      omega (arith, k, n, h, b, f, length-drop 2 job, w .short)
+
+  module _ (room : List ℕ) where
+    -- whether a direction opens; another number than 9 is told by the sections' call
+    abbrev opening : ℕ → Bool
+    opening zero = false
+    opening (suc d) = true
+
+    abbrev opens : Bool
+    opens = opening (getD job 1 0)
+
+    directed-so : (d k : ℕ) → directed d scheme key nonce header body room .number ≡ k
+        → answered (opening d) scheme key nonce header body room .number ≡ k
+    directed-so zero k e = e
+    directed-so (suc d) k e = e
+
+    sound-so : (b : Bool) (t : Told) (k : ℕ) → eqb 9 k ≡ false → cond b t (refused 9 room) .number ≡ k → (b ≡ true) × (t .number ≡ k)
+    sound-so true t k n e = (refl, e)
+    sound-so false t k n e = absurd (eqb-false 9 k n e)
+
+    called : (k : ℕ) → eqb 9 k ≡ false → jobOf job room .number ≡ k
+        → Sound job × (answered opens scheme key nonce header body room .number ≡ k)
     unfolding jobOf
-    job-so job =
-        chosen Told-so (isSound job) _ _
-        (λ e.
-        let a = all-of job (sound job e) in
-        directed-so (getD job 0 0) _ _ _ _ (omega (arith, a)) (omega (arith, a)) (λ k. omega (arith, a, k)) (getD job 1 0))
-        (λ _. p9)
+    called k n e = let (b, t) = sound-so (isSound job) _ k n e in (sound job b, directed-so (getD job 1 0) k t)
 
--- ---- 3 and 5
+    -- ---- 3, 8 and 5
 
-pub not-3 : (job room : List ℕ) → jobOf job room .number ≡ 3 → ⊥
-not-3 job room =
-    job-so (λ (n : ℕ). n ≡ 3 → ⊥)
-    (eqb-false 0 3 refl) (eqb-false 1 3 refl) (eqb-false 2 3 refl) (eqb-false 4 3 refl) (eqb-false 6 3 refl) (eqb-false 9 3 refl)
-    room (λ _. eqb-false 5 3 refl) job
+    pub not-3 : jobOf job room .number ≡ 3 → ⊥
+    not-3 e =
+        let (w, t) = called 3 refl e in
+        let (s, known, (_, _, h)) = says-3 opens scheme key nonce header body room .0 t in
+        omega (arith, h, wide scheme s known .header, all-of w)
 
-pub not-5 : (job room : List ℕ) → 16384 ≤ length room → jobOf job room .number ≡ 5 → ⊥
-not-5 job room l =
-    job-so (λ (n : ℕ). n ≡ 5 → ⊥)
-    (eqb-false 0 5 refl) (eqb-false 1 5 refl) (eqb-false 2 5 refl) (eqb-false 4 5 refl) (eqb-false 6 5 refl) (eqb-false 9 5 refl)
-    room (λ h. absurd (omega arith)) job
+    pub not-8 : jobOf job room .number ≡ 8 → ⊥
+    not-8 e =
+        let (w, t) = called 8 refl e in
+        let (s, known, (_, h)) = says-8 opens scheme key nonce header body room .0 t in
+        omega (arith, h, body-most opens s (length body), wide scheme s known .body, all-of w)
+
+    pub not-5 : 16384 ≤ length room → jobOf job room .number ≡ 5 → ⊥
+    not-5 l e =
+        let (w, t) = called 5 refl e in
+        let (s, known, (f, _, h)) = says-5 opens scheme key nonce header body room .0 t in
+        omega (arith, l, h, output-most opens s (length body), f .key-fits, wide scheme s known .key, all-of w)

@@ -21,7 +21,7 @@ use Rattle.sealing.proofs.Exactly.{sealed-long}
 use Rattle.sealing.proofs.Ways.{told-same}
 use Rattle.lines.specs.Line.{digitsOf, outputOf, lineOf, Puts}
 use Rattle.job.specs.Job.{Job, written, jobOf, lineFor, printed}
-use Rattle.job.proofs.Enough.{wide, not-3, not-5}
+use Rattle.job.proofs.Enough.{wide, not-3, not-5, not-8}
 use Rattle.job.proofs.Printing.{done-line, refused-line}
 use Rattle.job.proofs.Ways.{not-9, no-output, no-job}
 use Rattle.job.proofs.Taken.{written-length, written-answer, sound-written}
@@ -84,6 +84,9 @@ prints-refused job room h = refused-line (jobOf job room) h (no-output job room 
 
 pub never-3 : (job room : List ℕ) → jobOf job room .number ≡ 3 → ⊥
 never-3 = not-3
+
+pub never-8 : (job room : List ℕ) → jobOf job room .number ≡ 8 → ⊥
+never-8 = not-8
 
 pub never-5 : (job room : List ℕ) → 16384 ≤ length room → jobOf job room .number ≡ 5 → ⊥
 never-5 = not-5

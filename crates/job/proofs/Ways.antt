@@ -2,11 +2,12 @@
 use mathlib.Core.Path.{_≡_, refl, sym}
 use mathlib.Core.Bool.{Bool, true, false}
 use mathlib.Core.List.{List}
-use Prim.Native.Nat.{ℕ, zero, suc, _≤_}
+use Prim.Native.Nat.{ℕ, zero, suc}
 use native.Mathlib.Omega.{arith}
 use lib.ListN.{getD}
 use Rattle.sealing.specs.Calls.{Told, refused, done, forged}
 use Rattle.cells.proofs.Choice.{either}
+use Rattle.sealing.proofs.Passed.{Plain}
 use Rattle.sealing.proofs.Ways.{seal-ways, open-ways}
 use Rattle.job.specs.Job.{isSound, jobOf, directed}
 use Rattle.job.proofs.Reading.{unsound}
@@ -16,7 +17,7 @@ module _
     (room : List ℕ)
     (d : (l : ℕ) (out : List ℕ) → P (done l out room))
     (f : (l : ℕ) → P (forged l room))
-    (r : (k : ℕ) → k ≤ 5 → P (refused k room))
+    (r : (k : ℕ) → Plain k → P (refused k room))
   where
     directed-ways : (way scheme : ℕ) (key nonce header body : List ℕ) → P (directed way scheme key nonce header body room)
     directed-ways zero scheme key nonce header body = seal-ways P key nonce header scheme body room d r
@@ -30,14 +31,14 @@ module _
 pub not-9 : (way scheme : ℕ) (key nonce header body room : List ℕ) → directed way scheme key nonce header body room .number ≡ 9 → ⊥
 not-9 way scheme key nonce header body room =
     directed-ways (λ (t : Told). t .number ≡ 9 → ⊥) room
-    (λ l out e. omega arith) (λ l e. omega arith) (λ k few e. omega arith)
+    (λ l out e. omega arith) (λ l e. omega arith) (λ k p e. p .not-9 e)
     way scheme key nonce header body
 
 -- what is refused has no output
 pub no-output : (job room : List ℕ) → (jobOf job room .number ≡ 0 → ⊥) → jobOf job room .length ≡ 0
 no-output job room =
     job-ways (λ (t : Told). (t .number ≡ 0 → ⊥) → t .length ≡ 0) room
-    (λ l out h. absurd (h refl)) (λ l h. refl) (λ k few h. refl) (λ h. refl) job
+    (λ l out h. absurd (h refl)) (λ l h. refl) (λ k p h. refl) (λ h. refl) job
 
 -- what is not sound is answered by 9
 module _ (job room : List ℕ) where

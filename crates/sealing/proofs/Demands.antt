@@ -44,7 +44,7 @@ pub seal-refused : (scheme : ℕ) (key nonce header body room : List ℕ)
     → sealOf scheme key nonce header body room ≡ refused (sealOf scheme key nonce header body room .number) room
 seal-refused scheme key nonce header body room =
     seal-ways (λ (t : Told). (t .number ≡ 0 → ⊥) → t ≡ refused (t .number) room) key nonce header scheme body room
-    (λ l out h. absurd (h refl)) (λ k few h. refl)
+    (λ l out h. absurd (h refl)) (λ k p h. refl)
 
 -- a refused open too, other than with 6
 pub open-refused : (scheme : ℕ) (key nonce header run room : List ℕ)
@@ -53,7 +53,7 @@ pub open-refused : (scheme : ℕ) (key nonce header run room : List ℕ)
     → openOf scheme key nonce header run room ≡ refused (openOf scheme key nonce header run room .number) room
 open-refused scheme key nonce header run room =
     open-ways (λ (t : Told). (t .number ≡ 0 → ⊥) → (t .number ≡ 6 → ⊥) → t ≡ refused (t .number) room) key nonce header scheme run room
-    (λ l out h j. absurd (h refl)) (λ l h j. absurd (j refl)) (λ k few h j. refl)
+    (λ l out h j. absurd (h refl)) (λ l h j. absurd (j refl)) (λ k p h j. refl)
 
 -- 6 leaves zeros where a body would have been, and the rest unchanged
 pub open-forged : (scheme : ℕ) (s : Scheme) (key nonce header run room : List ℕ) → schemeOf scheme ≡ Known s

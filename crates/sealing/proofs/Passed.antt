@@ -1,16 +1,18 @@
 -- What the checks say: they answer 0 exactly if the lengths are admitted, a run is a block long at least and the room holds the
--- output, and else a number up to 5. Assumes nothing.
-use mathlib.Core.Path.{_≡_, refl}
-use Prim.Native.Nat.{ℕ, zero, suc, _+_, _≤_}
+-- output, and else a number up to 8 that is not 6. Assumes nothing.
+use mathlib.Core.Path.{_≡_, refl, ap}
+use mathlib.Core.Logic.{_↔_, Iff·rfl, Iff·trans, Iff·and}
+use Prim.Native.Nat.{ℕ, zero, suc, _+_, _≤_, _<_}
 use native.Mathlib.Omega.{arith}
-use mathlib.Core.Bool.{Bool, true, false, not, cond}
+use mathlib.Core.Bool.{Bool, true, false, not}
 use mathlib.Core.List.{List}
 use lib.Dec.{eqb, ltb}
-use borrow.Author.Tests.{eqb-true, eq-eqb, ltb-false, le-ltb, not-false}
+use borrow.Author.Tests.{eqb-true, eqb-false, eq-eqb, ne-eqb, ltb-true, ltb-false, lt-ltb, le-ltb, not-true, not-false}
 use Rattle.sealing.specs.declared.schemes.Scheme.{Scheme}
-use Rattle.sealing.specs.Checks.{checkOf}
+use Rattle.sealing.specs.Checks.{Check, checks, checkOf}
 use Rattle.sealing.specs.Calls.{Told, refused, passed}
-use Rattle.cells.proofs.Choice.{either}
+use Rattle.sealing.specs.Numbers.{Fitting}
+use Rattle.sealing.proofs.First.{Says, alone, absent, first-says, first-never}
 
 -- `more` and `room` as in checkOf: the output is `more` bytes longer than the body
 pub record Passed (s : Scheme) (key nonce header body more room : ℕ) : Type 0 where
@@ -20,45 +22,65 @@ pub record Passed (s : Scheme) (key nonce header body more room : ℕ) : Type 0 
   pub body-fits : body ≤ s .body
   pub room-fits : body + more ≤ room
 
--- ---- one check, and those behind it
+-- the number of a check, or 0 or 1: not 6, which is judged behind the checks, nor 9, which is the desk's program's
+pub record Plain (number : ℕ) : Type 0 where
+  pub not-6 : number ≡ 6 → ⊥
+  pub not-9 : number ≡ 9 → ⊥
 
--- its number is not 0, so that where 0 is answered it did not apply
-past : (b : Bool) (k rest : ℕ) → cond b (suc k) rest ≡ 0 → (b ≡ false) × (rest ≡ 0)
-past true k rest e = absurd (omega arith)
-past false k rest e = (refl, e)
+pub plain-1 : Plain 1
+plain-1 = record { not-6 = eqb-false 1 6 refl; not-9 = eqb-false 1 9 refl }
 
-most : (b : Bool) (k rest : ℕ) → k ≤ 5 → rest ≤ 5 → cond b k rest ≤ 5
-most = either (λ (k : ℕ). k ≤ 5)
+-- ---- the tests
 
--- ---- all of them, in the order of checkOf
+pub same-passes : (a b : ℕ) → (not (eqb a b) ≡ false) ↔ (a ≡ b)
+same-passes a b = (λ e. eqb-true a b (not-false _ e), λ e. ap not (eq-eqb a b e))
+
+pub same-fails : (a b : ℕ) → (not (eqb a b) ≡ true) ↔ (a ≡ b → ⊥)
+same-fails a b = (λ e. eqb-false a b (not-true _ e), λ h. ap not (ne-eqb a b h))
+
+pub within-passes : (a b : ℕ) → (ltb a b ≡ false) ↔ (b ≤ a)
+within-passes a b = (ltb-false a b, le-ltb a b)
+
+pub within-fails : (a b : ℕ) → (ltb a b ≡ true) ↔ (a < b)
+within-fails a b = (ltb-true a b, lt-ltb a b)
+
+-- ---- the checks
 
 module _ (s : Scheme) (key nonce header body : ℕ) (short : Bool) (more room : ℕ) where
-  through : checkOf s key nonce header body short more room ≡ 0 → Passed s key nonce header body more room × (short ≡ false)
+  abbrev list : List Check
+  list = checks s key nonce header body short more room
+
+  abbrev number : ℕ
+  number = checkOf s key nonce header body short more room
+
+  says : (k : ℕ) → alone k list ≡ true → (number ≡ k) ↔ Says k list
   unfolding checkOf
-  through e =
-      let a = past (not (eqb key (s .key))) 1 _ e in
-      let b = past (not (eqb nonce (s .nonce))) 1 _ (a .1) in
-      let c = past (ltb (s .header) header) 2 _ (b .1) in
-      let d = past (ltb (s .body) body) 2 _ (c .1) in
-      let f = past short 3 _ (d .1) in
-      let g = past (ltb room (body + more)) 4 0 (f .1) in (
-        record {
-          key-is = eqb-true key (s .key) (not-false _ (a .0));
-          nonce-is = eqb-true nonce (s .nonce) (not-false _ (b .0));
-          header-fits = ltb-false (s .header) header (c .0);
-          body-fits = ltb-false (s .body) body (d .0);
-          room-fits = ltb-false room (body + more) (g .0);
-        },
-        f .0,
-      )
+  says k = first-says k list
 
-  pub check-passed : checkOf s key nonce header body short more room ≡ 0 → Passed s key nonce header body more room
-  check-passed e = through e .0
+  pub check-never : (k : ℕ) → absent k list ≡ true → number ≡ k → ⊥
+  unfolding checkOf
+  check-never k = first-never k list
 
-  pub check-long : checkOf s key nonce header body short more room ≡ 0 → short ≡ false
-  check-long e = through e .1
+  pub check-plain : Plain number
+  check-plain = record { not-6 = check-never 6 refl; not-9 = check-never 9 refl }
 
-  pub check-pass : Passed s key nonce header body more room → short ≡ false → checkOf s key nonce header body short more room ≡ 0
+  -- ---- 0
+
+  pub check-passed : number ≡ 0 → Passed s key nonce header body more room
+  check-passed e =
+      let (k, (n, (h, (b, (_, (r, _)))))) = says 0 refl .0 e in
+      record {
+        key-is = same-passes key (s .key) .0 k;
+        nonce-is = same-passes nonce (s .nonce) .0 n;
+        header-fits = ltb-false (s .header) header h;
+        body-fits = ltb-false (s .body) body b;
+        room-fits = ltb-false room (body + more) r;
+      }
+
+  pub check-long : number ≡ 0 → short ≡ false
+  check-long e = let (_, (_, (_, (_, (l, _))))) = says 0 refl .0 e in l
+
+  pub check-pass : Passed s key nonce header body more room → short ≡ false → number ≡ 0
   unfolding checkOf
   check-pass p e =
       simp (
@@ -70,15 +92,44 @@ module _ (s : Scheme) (key nonce header body : ℕ) (short : Bool) (more room : 
         le-ltb room (body + more) (p .room-fits),
       )
 
-  pub check-most : checkOf s key nonce header body short more room ≤ 5
-  unfolding checkOf
-  check-most =
-      most (not (eqb key (s .key))) 2 _ (omega arith)
-      (most (not (eqb nonce (s .nonce))) 2 _ (omega arith)
-      (most (ltb (s .header) header) 3 _ (omega arith)
-      (most (ltb (s .body) body) 3 _ (omega arith)
-      (most short 4 _ (omega arith)
-      (most (ltb room (body + more)) 5 0 (omega arith) (omega arith))))))
+  -- ---- each of the others
+
+  pub check-2 : (number ≡ 2) ↔ (key ≡ s .key → ⊥)
+  check-2 = Iff·trans (says 2 refl) (same-fails key (s .key))
+
+  pub check-7 : (number ≡ 7) ↔ ((key ≡ s .key) × (nonce ≡ s .nonce → ⊥))
+  check-7 = Iff·trans (says 7 refl) (Iff·and (same-passes key (s .key)) (same-fails nonce (s .nonce)))
+
+  -- where key and nonce pass, and where the header passes too
+  two-pass : {A B : Type 0} → A ↔ B
+      → ((not (eqb key (s .key)) ≡ false) × ((not (eqb nonce (s .nonce)) ≡ false) × A)) ↔ ((key ≡ s .key) × (nonce ≡ s .nonce) × B)
+  two-pass f = (
+    λ t. (same-passes key (s .key) .0 (t .0), same-passes nonce (s .nonce) .0 (t .1 .0), f .0 (t .1 .1)),
+    λ t. (same-passes key (s .key) .1 (t .0), (same-passes nonce (s .nonce) .1 (t .1), f .1 (t .2))),
+  )
+
+  three-pass : {A B : Type 0} → A ↔ B
+      → ((not (eqb key (s .key)) ≡ false) × ((not (eqb nonce (s .nonce)) ≡ false) × ((ltb (s .header) header ≡ false) × A)))
+      ↔ (Fitting s key nonce header × B)
+  three-pass f =
+      Iff·trans (two-pass (Iff·and (within-passes (s .header) header) f)) (
+        λ t. (record { key-fits = t .0; nonce-fits = t .1; header-fits = t .2 .0 }, t .2 .1),
+        λ t. (t .0 .key-fits, t .0 .nonce-fits, (t .0 .header-fits, t .1)),
+      )
+
+  pub check-3 : (number ≡ 3) ↔ ((key ≡ s .key) × (nonce ≡ s .nonce) × (s .header < header))
+  check-3 = Iff·trans (says 3 refl) (two-pass (within-fails (s .header) header))
+
+  pub check-8 : (number ≡ 8) ↔ (Fitting s key nonce header × (s .body < body))
+  check-8 = Iff·trans (says 8 refl) (three-pass (within-fails (s .body) body))
+
+  pub check-4 : (number ≡ 4) ↔ (Fitting s key nonce header × ((body ≤ s .body) × (short ≡ true)))
+  check-4 = Iff·trans (says 4 refl) (three-pass (Iff·and (within-passes (s .body) body) Iff·rfl))
+
+  pub check-5 : (number ≡ 5) ↔ (Fitting s key nonce header × ((body ≤ s .body) × ((short ≡ false) × (room < body + more))))
+  check-5 =
+      Iff·trans (says 5 refl)
+      (three-pass (Iff·and (within-passes (s .body) body) (Iff·and Iff·rfl (within-fails room (body + more)))))
 
 -- ---- what is told then
 

@@ -1,6 +1,7 @@
 -- The table of schemes: 1, 2 and 3 name the three, other numbers none; what holds of the three holds of what is named, so that
 -- it fits the walks; and a call by a number is the call under what it names. Assumes nothing.
-use mathlib.Core.Path.{_≡_, refl, ap, subst}
+use mathlib.Core.Path.{_≡_, refl, sym, ap, subst, _∙_}
+use mathlib.Core.Logic.{_↔_}
 use Prim.Native.Nat.{ℕ}
 use native.Mathlib.Omega.{arith}
 use mathlib.Core.List.{List}
@@ -30,6 +31,21 @@ named-3 = refl
 pub none-named : (number : ℕ) → (number ≡ 1 → ⊥) → (number ≡ 2 → ⊥) → (number ≡ 3 → ⊥) → schemeOf number ≡ Unknown
 unfolding schemeOf
 none-named number a b c = simp (ne-eqb number 1 a, ne-eqb number 2 b, ne-eqb number 3 c)
+
+known : (s : Scheme) → Known s ≡ Unknown → ⊥
+known s e = subst Is-known e tt
+  where
+    Is-known : Named → Type 0
+    Is-known (Known s) = Unit
+    Is-known Unknown = ⊥
+
+pub unnamed : (number : ℕ) → (schemeOf number ≡ Unknown) ↔ ((number ≡ 1 → ⊥) × (number ≡ 2 → ⊥) × (number ≡ 3 → ⊥))
+unnamed number = (
+  λ u.
+      let not : (k : ℕ) (s : Scheme) → schemeOf k ≡ Known s → number ≡ k → ⊥ = λ k s n e. known s (sym n ∙ ap schemeOf (sym e) ∙ u) in
+      (not 1 scheme1 named-1, not 2 scheme2 named-2, not 3 scheme3 named-3),
+  λ h. none-named number (h .0) (h .1) (h .2),
+)
 
 -- ---- what holds of the three holds of whatever a number names
 

@@ -15,7 +15,7 @@ use Rattle.sealing.specs.Schemes.{schemeOf}
 use Rattle.sealing.specs.Calls.{Told, told, refused, done, forged, passed, under}
 use Rattle.sealing.specs.Calls.{sealed, opened, sealUnder, openUnder, sealOf, openOf}
 use Rattle.cells.proofs.Choice.{either}
-use Rattle.sealing.proofs.Passed.{check-most}
+use Rattle.sealing.proofs.Passed.{Plain, plain-1, check-plain}
 
 -- ---- for any property of what is told
 
@@ -31,27 +31,27 @@ module _ (P : Told → Type 0) where
   module _ (key nonce header : List ℕ) where
     -- a seal is done or refused
     seal-under-ways : (s : Scheme) (body room : List ℕ) → ((l : ℕ) (out : List ℕ) → P (done l out room))
-        → ((k : ℕ) → k ≤ 5 → P (refused k room)) → P (sealUnder s key nonce header body room)
+        → ((k : ℕ) → Plain k → P (refused k room)) → P (sealUnder s key nonce header body room)
     unfolding sealUnder
     seal-under-ways s body room d r =
         let n = blockOf (s .cipher) in
         passed-all _ _ room
         (d (length body + n) (sealed s key nonce header body))
-        (r _ (check-most s (length key) (length nonce) (length header) (length body) false n (length room)))
+        (r _ (check-plain s (length key) (length nonce) (length header) (length body) false n (length room)))
 
     pub seal-ways : (scheme : ℕ) (body room : List ℕ) → ((l : ℕ) (out : List ℕ) → P (done l out room))
-        → ((k : ℕ) → k ≤ 5 → P (refused k room)) → P (sealOf scheme key nonce header body room)
+        → ((k : ℕ) → Plain k → P (refused k room)) → P (sealOf scheme key nonce header body room)
     unfolding sealOf
     seal-ways scheme body room d r =
         under-all (schemeOf scheme) (λ s. sealUnder s key nonce header body room) room
         (λ s. seal-under-ways s body room d r)
-        (r 1 (omega arith))
+        (r 1 plain-1)
 
     -- an open is done, forged or refused
     open-under-ways : (s : Scheme) (run room : List ℕ)
         → ((out : List ℕ) → P (done (length run - blockOf (s .cipher)) out room))
         → P (forged (length run - blockOf (s .cipher)) room)
-        → ((k : ℕ) → k ≤ 5 → P (refused k room)) → P (openUnder s key nonce header run room)
+        → ((k : ℕ) → Plain k → P (refused k room)) → P (openUnder s key nonce header run room)
     unfolding openUnder
     open-under-ways s run room d f r =
         let n = blockOf (s .cipher) in
@@ -59,15 +59,15 @@ module _ (P : Told → Type 0) where
         let o = opened s key nonce header run in
         passed-all _ _ room
         (either P (o .authentic) _ _ (d (o .body)) f)
-        (r _ (check-most s (length key) (length nonce) (length header) l (ltb (length run) n) 0 (length room)))
+        (r _ (check-plain s (length key) (length nonce) (length header) l (ltb (length run) n) 0 (length room)))
 
     pub open-ways : (scheme : ℕ) (run room : List ℕ) → ((l : ℕ) (out : List ℕ) → P (done l out room))
-        → ((l : ℕ) → P (forged l room)) → ((k : ℕ) → k ≤ 5 → P (refused k room)) → P (openOf scheme key nonce header run room)
+        → ((l : ℕ) → P (forged l room)) → ((k : ℕ) → Plain k → P (refused k room)) → P (openOf scheme key nonce header run room)
     unfolding openOf
     open-ways scheme run room d f r =
         under-all (schemeOf scheme) (λ s. openUnder s key nonce header run room) room
         (λ s. let l = length run - blockOf (s .cipher) in open-under-ways s run room (d l) (f l) r)
-        (r 1 (omega arith))
+        (r 1 plain-1)
 
 -- ---- what follows
 
@@ -89,7 +89,7 @@ forged-under s key nonce header run room =
     open-under-ways (λ (t : Told). t .number ≡ 6 → t ≡ forged (length run - blockOf (s .cipher)) room) key nonce header s run room
     (λ out h. absurd (omega arith))
     (λ h. refl)
-    (λ k few h. absurd (omega arith))
+    (λ k p h. absurd (p .not-6 h))
 
 -- an open that is not done has no length
 pub no-length : (scheme : ℕ) (key nonce header run room : List ℕ) → (openOf scheme key nonce header run room .number ≡ 0 → ⊥)
@@ -98,7 +98,7 @@ no-length scheme key nonce header run room =
     open-ways (λ (t : Told). (t .number ≡ 0 → ⊥) → t .length ≡ 0) key nonce header scheme run room
     (λ l out h. absurd (h refl))
     (λ l h. refl)
-    (λ k few h. refl)
+    (λ k p h. refl)
 
 -- what is told has the answer's number and length in it, and the room
 pub told-same : (a b : Answer) (r q : List ℕ) (t : Told) → told a r ≡ t → told b q ≡ t → (a ≡ b) × (r ≡ q)

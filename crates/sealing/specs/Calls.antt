@@ -23,7 +23,7 @@ pub record Told : Type 0 where
 abbrev pub told : Answer → List ℕ → Told
 told a room = record { number = a .number; length = a .length; room = room }
 
--- 1 to 5: the room unchanged
+-- 1 to 5, 7 and 8: the room unchanged
 abbrev pub refused : ℕ → List ℕ → Told
 refused number room = record { number = number; length = 0; room = room }
 

@@ -1,20 +1,37 @@
--- The checks, in their order: the first that applies answers with its number (01, What a caller is told). They look at lengths
--- alone. Number 1, no such scheme, comes before them all; 6, not authentic, behind them. Assumes nothing.
+-- The checks, in their order: the first that applies answers with its number (01, What a caller is told; its 2 and 3 are parted by C-11).
+-- They look at lengths alone. Number 1, no such scheme, comes before them all; 6, not authentic, behind them. Assumes nothing.
 use Prim.Native.Nat.{ℕ, _+_, _-_}
-use mathlib.Core.Bool.{Bool, false, not, cond}
+use mathlib.Core.Bool.{Bool, true, false, not, cond}
+use mathlib.Core.List.{List, [], _∷_}
 use lib.Dec.{eqb, ltb}
 use Rattle.ciphers.specs.Ciphers.{blockOf}
 use Rattle.sealing.specs.declared.schemes.Scheme.{Scheme}
 
+pub record Check : Type 0 where
+  pub applies : Bool
+  pub number : ℕ
+
+abbrev when : Bool → ℕ → Check
+when applies number = record { applies = applies; number = number }
+
+-- 0 where none applies
+abbrev pub first : List Check → ℕ
+first [] = 0
+first (c ∷ cs) = cond (c .applies) (c .number) (first cs)
+
 -- `short`: the sealed run is shorter than a block. `more`: by how much the output is longer than the body.
+abbrev pub checks : Scheme → (key nonce header body : ℕ) (short : Bool) (more room : ℕ) → List Check
+checks s key nonce header body short more room =
+    when (not (eqb key (s .key))) 2
+    ∷ when (not (eqb nonce (s .nonce))) 7
+    ∷ when (ltb (s .header) header) 3
+    ∷ when (ltb (s .body) body) 8
+    ∷ when short 4
+    ∷ when (ltb room (body + more)) 5
+    ∷ []
+
 unfoldable pub checkOf : Scheme → (key nonce header body : ℕ) (short : Bool) (more room : ℕ) → ℕ
-checkOf s key nonce header body short more room =
-    cond (not (eqb key (s .key))) 2
-    (cond (not (eqb nonce (s .nonce))) 2
-    (cond (ltb (s .header) header) 3
-    (cond (ltb (s .body) body) 3
-    (cond short 4
-    (cond (ltb room (body + more)) 5 0)))))
+checkOf s key nonce header body short more room = first (checks s key nonce header body short more room)
 
 -- of a seal: the output is a block longer than the body
 abbrev pub sealCheck : Scheme → (key nonce header body room : ℕ) → ℕ

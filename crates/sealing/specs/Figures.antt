@@ -1,4 +1,4 @@
--- The boundary figures of document 01 (What a caller is told), one table: the lengths that go into a call, and the number that its
+-- The boundary figures of document 01 (What a caller is told; 3 and 8 parted by C-11), one table: the lengths that go into a call, and the number that its
 -- checks answer; 0 says that no check applies. Key and nonce have the scheme's lengths. Assumes nothing.
 use Prim.Native.Nat.{ℕ}
 use mathlib.Core.Bool.{Bool, true, false}
@@ -28,29 +28,35 @@ opening scheme header run room number =
 
 abbrev pub figures : List Figure
 figures =
-    -- scheme 1 takes 65,528 bytes and refuses 65,529: of body, of header, of a body in its run
+    -- scheme 1 takes 65,528 bytes and refuses 65,529, of a header with 3 and of a body, also in its run, with 8; of both with 3
     seals 1 0 65528 65536 0
-    ∷ seals 1 0 65529 65537 3
+    ∷ seals 1 0 65529 65537 8
     ∷ seals 1 65528 0 8 0
     ∷ seals 1 65529 0 8 3
     ∷ opening 1 65528 65536 65528 0
-    ∷ opening 1 65528 65537 65529 3
+    ∷ opening 1 65528 65537 65529 8
     ∷ opening 1 65529 65536 65528 3
+    ∷ seals 1 65529 65529 65537 3
+    ∷ opening 1 65529 65537 65529 3
     -- schemes 2 and 3 take 131,056 and refuse 131,057
     ∷ seals 2 0 131056 131072 0
-    ∷ seals 2 0 131057 131073 3
+    ∷ seals 2 0 131057 131073 8
     ∷ seals 2 131056 0 16 0
     ∷ seals 2 131057 0 16 3
     ∷ opening 2 131056 131072 131056 0
-    ∷ opening 2 131056 131073 131057 3
+    ∷ opening 2 131056 131073 131057 8
     ∷ opening 2 131057 131072 131056 3
+    ∷ seals 2 131057 131057 131073 3
+    ∷ opening 2 131057 131073 131057 3
     ∷ seals 3 0 131056 131072 0
-    ∷ seals 3 0 131057 131073 3
+    ∷ seals 3 0 131057 131073 8
     ∷ seals 3 131056 0 16 0
     ∷ seals 3 131057 0 16 3
     ∷ opening 3 131056 131072 131056 0
-    ∷ opening 3 131056 131073 131057 3
+    ∷ opening 3 131056 131073 131057 8
     ∷ opening 3 131057 131072 131056 3
+    ∷ seals 3 131057 131057 131073 3
+    ∷ opening 3 131057 131073 131057 3
     -- an open of 7 bytes under scheme 1 is 4; of 8 bytes it is judged as an empty body; likewise 15 and 16 under 2 and 3
     ∷ opening 1 0 7 0 4
     ∷ opening 1 0 8 0 0
@@ -58,7 +64,7 @@ figures =
     ∷ opening 2 0 16 0 0
     ∷ opening 3 0 15 0 4
     ∷ opening 3 0 16 0 0
-    -- a run shorter than a block has no body to judge under 3: it is 4, but 3 under too long a header
+    -- a run shorter than a block has no body to judge under 8: it is 4, but 3 under too long a header
     ∷ opening 1 65529 7 0 3
     -- a room one byte short is 5; an exact room is enough
     ∷ seals 1 16 5 12 5

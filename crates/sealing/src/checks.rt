@@ -24,13 +24,13 @@ pub fn check(
         return 2;
     }
     if nonce != s.nonce {
-        return 2;
+        return 7;
     }
     if s.header < header {
         return 3;
     }
     if s.body < body {
-        return 3;
+        return 8;
     }
     let need = body + more;
     if short {

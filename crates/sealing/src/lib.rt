@@ -55,8 +55,8 @@ fn seal_under(
     }
 }
 
-// Seals a body: the sealed run, a block longer, at the front of the room. Refused with 1 (scheme), 2 (key or nonce length), 3
-// (header or body too long) or 5 (room too short), the room unchanged.
+// Seals a body: the sealed run, a block longer, at the front of the room. Refused, in this order, with 1 (scheme), 2 (key length), 7
+// (nonce length), 3 (header too long), 8 (body too long) or 5 (room too short), the room unchanged.
 pub fn seal(
     scheme: u32,
     key: &[u8],
@@ -129,8 +129,8 @@ fn open_under(
     }
 }
 
-// Opens a sealed run: its body, a block shorter, at the front of the room. Refused with 1, 2, 3, 4 (run shorter than a block) or
-// 5, the room unchanged, or with 6 (not authentic), zeros where the body would have been.
+// Opens a sealed run: its body, a block shorter, at the front of the room. Refused, in this order, with 1, 2, 7, 3, 8, 4 (run shorter
+// than a block) or 5, the room unchanged, or with 6 (not authentic), zeros where the body would have been.
 pub fn open(
     scheme: u32,
     key: &[u8],
