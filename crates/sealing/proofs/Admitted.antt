@@ -23,9 +23,7 @@ module _ (number : ℕ) (s : Scheme) (key nonce header : List ℕ) (ok : Admitte
   admits : (body more room : ℕ) → body ≤ s .body → body + more ≤ room
       → Passed s (length key) (length nonce) (length header) body more room
   admits body more room b r = record {
-    key-is = ok .key-fits .long;
-    nonce-is = ok .nonce-fits .long;
-    header-fits = ok .header-fits;
+    fit = record { key-fits = ok .key-fits .long; nonce-fits = ok .nonce-fits .long; header-fits = ok .header-fits };
     body-fits = b;
     room-fits = r;
   }

@@ -3,7 +3,6 @@
 -- body's, and all that is looked at before was right. 0 is what `seals-exactly` and `opens-exactly` of Demands.antt say. Assumes nothing.
 use mathlib.Core.Path.{_≡_, refl}
 use Prim.Native.Nat.{ℕ, _+_, _≤_, _<_}
-use native.Mathlib.Omega.{arith}
 use mathlib.Core.Logic.{_↔_, Iff·trans}
 use mathlib.Core.Bool.{Bool, true, false}
 use mathlib.Core.List.{List}

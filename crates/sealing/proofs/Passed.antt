@@ -1,11 +1,11 @@
--- What the checks say: they answer 0 exactly if the lengths are admitted, a run is a block long at least and the room holds the
--- output, and else a number up to 8 that is not 6. Assumes nothing.
+-- What the checks say of the lengths, number by number: 0 exactly if all fit, a run is a block long at least and the room holds the
+-- output; each other number exactly if its length is the first that does not. Assumes nothing.
 use mathlib.Core.Path.{_≡_, refl, ap}
 use mathlib.Core.Logic.{_↔_, Iff·rfl, Iff·trans, Iff·and}
 use Prim.Native.Nat.{ℕ, zero, suc, _+_, _≤_, _<_}
 use native.Mathlib.Omega.{arith}
 use mathlib.Core.Bool.{Bool, true, false, not}
-use mathlib.Core.List.{List}
+use mathlib.Core.List.{List, []}
 use lib.Dec.{eqb, ltb}
 use borrow.Author.Tests.{eqb-true, eqb-false, eq-eqb, ne-eqb, ltb-true, ltb-false, lt-ltb, le-ltb, not-true, not-false}
 use Rattle.sealing.specs.declared.schemes.Scheme.{Scheme}
@@ -16,9 +16,7 @@ use Rattle.sealing.proofs.First.{Says, alone, absent, first-says, first
 
 -- `more` and `room` as in checkOf: the output is `more` bytes longer than the body
 pub record Passed (s : Scheme) (key nonce header body more room : ℕ) : Type 0 where
-  pub key-is : key ≡ s .key
-  pub nonce-is : nonce ≡ s .nonce
-  pub header-fits : header ≤ s .header
+  pub fit : Fitting s key nonce header
   pub body-fits : body ≤ s .body
   pub room-fits : body + more ≤ room
 
@@ -64,43 +62,7 @@ module _ (s : Scheme) (key nonce header body : ℕ) (short : Bool) (more room : 
   pub check-plain : Plain number
   check-plain = record { not-6 = check-never 6 refl; not-9 = check-never 9 refl }
 
-  -- ---- 0
-
-  pub check-passed : number ≡ 0 → Passed s key nonce header body more room
-  check-passed e =
-      let (k, (n, (h, (b, (_, (r, _)))))) = says 0 refl .0 e in
-      record {
-        key-is = same-passes key (s .key) .0 k;
-        nonce-is = same-passes nonce (s .nonce) .0 n;
-        header-fits = ltb-false (s .header) header h;
-        body-fits = ltb-false (s .body) body b;
-        room-fits = ltb-false room (body + more) r;
-      }
-
-  pub check-long : number ≡ 0 → short ≡ false
-  check-long e = let (_, (_, (_, (_, (l, _))))) = says 0 refl .0 e in l
-
-  pub check-pass : Passed s key nonce header body more room → short ≡ false → number ≡ 0
-  unfolding checkOf
-  check-pass p e =
-      simp (
-        eq-eqb key (s .key) (p .key-is),
-        eq-eqb nonce (s .nonce) (p .nonce-is),
-        le-ltb (s .header) header (p .header-fits),
-        le-ltb (s .body) body (p .body-fits),
-        e,
-        le-ltb room (body + more) (p .room-fits),
-      )
-
-  -- ---- each of the others
-
-  pub check-2 : (number ≡ 2) ↔ (key ≡ s .key → ⊥)
-  check-2 = Iff·trans (says 2 refl) (same-fails key (s .key))
-
-  pub check-7 : (number ≡ 7) ↔ ((key ≡ s .key) × (nonce ≡ s .nonce → ⊥))
-  check-7 = Iff·trans (says 7 refl) (Iff·and (same-passes key (s .key)) (same-fails nonce (s .nonce)))
-
-  -- where key and nonce pass, and where the header passes too
+  -- key and nonce pass, and the header too
   two-pass : {A B : Type 0} → A ↔ B
       → ((not (eqb key (s .key)) ≡ false) × ((not (eqb nonce (s .nonce)) ≡ false) × A)) ↔ ((key ≡ s .key) × (nonce ≡ s .nonce) × B)
   two-pass f = (
@@ -117,6 +79,14 @@ module _ (s : Scheme) (key nonce header body : ℕ) (short : Bool) (more room : 
         λ t. (t .0 .key-fits, t .0 .nonce-fits, (t .0 .header-fits, t .1)),
       )
 
+  -- ---- each number
+
+  pub check-2 : (number ≡ 2) ↔ (key ≡ s .key → ⊥)
+  check-2 = Iff·trans (says 2 refl) (same-fails key (s .key))
+
+  pub check-7 : (number ≡ 7) ↔ ((key ≡ s .key) × (nonce ≡ s .nonce → ⊥))
+  check-7 = Iff·trans (says 7 refl) (Iff·and (same-passes key (s .key)) (same-fails nonce (s .nonce)))
+
   pub check-3 : (number ≡ 3) ↔ ((key ≡ s .key) × (nonce ≡ s .nonce) × (s .header < header))
   check-3 = Iff·trans (says 3 refl) (two-pass (within-fails (s .header) header))
 
@@ -130,6 +100,21 @@ module _ (s : Scheme) (key nonce header body : ℕ) (short : Bool) (more room : 
   check-5 =
       Iff·trans (says 5 refl)
       (three-pass (Iff·and (within-passes (s .body) body) (Iff·and Iff·rfl (within-fails room (body + more)))))
+
+  check-0 : (number ≡ 0) ↔ (Fitting s key nonce header × ((body ≤ s .body) × ((short ≡ false) × ((body + more ≤ room) × Says 0 []))))
+  check-0 =
+      Iff·trans (says 0 refl)
+      (three-pass
+      (Iff·and (within-passes (s .body) body) (Iff·and Iff·rfl (Iff·and (within-passes room (body + more)) Iff·rfl))))
+
+  pub check-passed : number ≡ 0 → Passed s key nonce header body more room
+  check-passed e = let (f, (b, (_, (r, _)))) = check-0 .0 e in record { fit = f; body-fits = b; room-fits = r }
+
+  pub check-long : number ≡ 0 → short ≡ false
+  check-long e = let (_, (_, (l, _))) = check-0 .0 e in l
+
+  pub check-pass : Passed s key nonce header body more room → short ≡ false → number ≡ 0
+  check-pass p l = check-0 .1 (p .fit, (p .body-fits, (l, (p .room-fits, refl))))
 
 -- ---- what is told then
 

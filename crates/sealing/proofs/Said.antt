@@ -3,7 +3,7 @@
 --     said-6   6 where they answer 0 and the run is not authentic
 --     said-1   1 where no scheme is named
 -- Assumes nothing.
-use mathlib.Core.Path.{_≡_, refl, sym, ap, subst, _∙_}
+use mathlib.Core.Path.{_≡_, refl, sym, ap, subst}
 use Prim.Native.Nat.{ℕ, zero, suc, _+_, _-_, _<_}
 use native.Mathlib.Omega.{arith}
 use mathlib.Core.Logic.{_↔_, Iff·trans}
@@ -13,6 +13,7 @@ use lib.Dec.{eqb, ltb}
 use lib.ListN.{length}
 use borrow.Author.Tests.{eqb-false, ltb-true, lt-ltb, le-ltb}
 use Rattle.ciphers.specs.Ciphers.{blockOf}
+use Rattle.modes.specs.Mode.{Opened}
 use Rattle.cells.proofs.Choice.{either}
 use Rattle.sealing.specs.declared.schemes.Scheme.{Scheme}
 use Rattle.sealing.specs.declared.schemes.Named.{Named}
@@ -37,6 +38,10 @@ passed-6 : (c : ℕ) (a : Bool) (l : ℕ) (out room : List ℕ) → (c ≡ 6 →
 passed-6 zero true l out room h = (λ e. absurd (omega arith), λ t. absurd (true≢false (t .1)))
 passed-6 zero false l out room h = (λ _. (refl, refl), λ _. refl)
 passed-6 (suc c) a l out room h = (λ e. absurd (h e), λ t. absurd (omega (arith, t .0)))
+
+-- nor is another number told of an open that the checks passed
+judged-not : (k : ℕ) → eqb 0 k ≡ false → eqb 6 k ≡ false → (o : Opened) (l : ℕ) (room : List ℕ) → judged o l room .number ≡ k → ⊥
+judged-not k not-0 not-6 o l room = either (λ (t : Told). t .number ≡ k → ⊥) (o .authentic) _ _ (eqb-false 0 k not-0) (eqb-false 6 k not-6)
 
 module _ (m : Named) (f : Scheme → Told) (room : List ℕ) where
   abbrev number : Named → ℕ
@@ -88,10 +93,6 @@ module _ (scheme : ℕ) (key nonce header input room : List ℕ) where
     by-scheme call f =
         Iff·trans (under-says (schemeOf scheme) call room k (eqb-false 1 k not-1)) (under-each scheme (λ s. call s .number ≡ k) Q f)
 
-    -- what is told where the checks passed has not this number
-    not-judged : (a : Bool) (l : ℕ) (out : List ℕ) → cond a (done l out room) (forged l room) .number ≡ k → ⊥
-    not-judged a l out = either (λ (t : Told). t .number ≡ k → ⊥) a _ _ zero-not (eqb-false 6 k not-6)
-
     pub said : (opens : Bool) → ((s : Scheme) → (checkIn opens s ≡ k) ↔ Q s)
         → (answered opens scheme key nonce header input room .number ≡ k) ↔ Under scheme Q
     unfolding sealOf sealUnder openOf openUnder
@@ -102,7 +103,7 @@ module _ (scheme : ℕ) (key nonce header input room : List ℕ) where
         by-scheme (λ s. openUnder s key nonce header input room) λ s.
         let o = opened s key nonce header input in
         let l = length input - blockOf (s .cipher) in
-        Iff·trans (passed-says (checkIn true s) (judged o l room) room k (not-judged (o .authentic) l (o .body)) zero-not) (f s)
+        Iff·trans (passed-says (checkIn true s) (judged o l room) room k (judged-not k not-0 not-6 o l room) zero-not) (f s)
 
   abbrev Short : Scheme → Type 0
   Short s = Fitting s (length key) (length nonce) (length header) × (length input < blockOf (s .cipher))
@@ -146,5 +147,5 @@ module _ (scheme : ℕ) (key nonce header input room : List ℕ) where
   said-1 true =
       under-1 (schemeOf scheme) _ room λ s.
       passed-all (λ (t : Told). t .number ≡ 1 → ⊥) (checkIn true s) _ room
-      (either (λ (t : Told). t .number ≡ 1 → ⊥) (opened s key nonce header input .authentic) _ _ (eqb-false 0 1 refl) (eqb-false 6 1 refl))
+      (judged-not 1 refl refl (opened s key nonce header input) _ room)
       (check-never s _ _ _ _ _ _ _ 1 refl)

@@ -1,7 +1,7 @@
 -- The checks, in their order: the first that applies answers with its number (01, What a caller is told; its 2 and 3 are parted by C-11).
 -- They look at lengths alone. Number 1, no such scheme, comes before them all; 6, not authentic, behind them. Assumes nothing.
 use Prim.Native.Nat.{ℕ, _+_, _-_}
-use mathlib.Core.Bool.{Bool, true, false, not, cond}
+use mathlib.Core.Bool.{Bool, false, not, cond}
 use mathlib.Core.List.{List, [], _∷_}
 use lib.Dec.{eqb, ltb}
 use Rattle.ciphers.specs.Ciphers.{blockOf}

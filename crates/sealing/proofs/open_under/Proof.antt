@@ -36,7 +36,7 @@ front-requires c κs =
     let start = c .before .before .before .before .before .before .before .before .before in
     let a = start .args in
     let p = check-passed (a .s) _ _ _ _ _ _ _ (sym (c .before .check .ensures) ∙ c .if1 .left) in
-    (omega arith, omega (arith, p .key-is, start .pre .key))
+    (omega arith, omega (arith, p .fit .key-fits, start .pre .key))
 
 open-requires : tie.Need-open-requires
 open-requires c κs =
@@ -49,9 +49,9 @@ open-requires c κs =
     let p = check-passed (a .s) _ _ _ _ _ _ _ (sym (after-check .check .ensures) ∙ test .if1 .left) in
     let q = ltb-false (length (a .sealed .now)) (after-block-of .block-of .result)
     (check-long (a .s) _ _ _ _ _ _ _ (sym (after-check .check .ensures) ∙ test .if1 .left)) in (
-      record { fills = omega (arith, p .nonce-is, start .pre .nonce); few = omega (arith, p .header-fits, start .pre .header) },
+      record { fills = omega (arith, p .fit .nonce-fits, start .pre .nonce); few = omega (arith, p .fit .header-fits, start .pre .header) },
       record {
-        fills = omega (arith, p .nonce-is, start .pre .nonce);
+        fills = omega (arith, p .fit .nonce-fits, start .pre .nonce);
         few =
             omega (arith, p .body-fits, start .pre .body, after-body-of .body-of .ensures, q, after-block-of .block-of .ensures, block-most (a .s .cipher));
       },
@@ -77,7 +77,7 @@ returns-2 c =
     let p = check-passed (a .s) _ _ _ _ _ _ _ (sym (after-check .check .ensures) ∙ test .if1 .left) in
     open-does (a .s) (a .key .now) (a .nonce .now) (a .header .now) _ (after-block-of .block-of .ensures) _ (a .sealed .now)
     (a .room .now) _ _ (after-body-of .body-of .ensures) refl (after-check .check .ensures)
-    (test .if1 .left) _ (key-same (a .key .now) _ (omega (arith, p .key-is, start .pre .key)) (after-front .front .ensures)) _ _
+    (test .if1 .left) _ (key-same (a .key .now) _ (omega (arith, p .fit .key-fits, start .pre .key)) (after-front .front .ensures)) _ _
     (after-open .«open» .ensures) (c .if2 .taken)
 
 clear-requires : tie.Need-clear-requires
@@ -107,7 +107,7 @@ returns-3 c =
     let p = check-passed (a .s) _ _ _ _ _ _ _ (sym (after-check .check .ensures) ∙ test .if1 .left) in
     open-forges (a .s) (a .key .now) (a .nonce .now) (a .header .now) _ (after-block-of .block-of .ensures) _ (a .sealed .now)
     (a .room .now) _ _ (after-body-of .body-of .ensures) refl (after-check .check .ensures)
-    (test .if1 .left) _ (key-same (a .key .now) _ (omega (arith, p .key-is, start .pre .key)) (after-front .front .ensures)) _ _
+    (test .if1 .left) _ (key-same (a .key .now) _ (omega (arith, p .fit .key-fits, start .pre .key)) (after-front .front .ensures)) _ _
     (after-open .«open» .ensures) (test2 .if2 .left) _ (after-clear .clear .ensures)
 
 pub open-under-spec : {M : Type 1} → statement M

@@ -30,7 +30,7 @@ front-requires c κs =
     let start = c .before .before .before .before .before .before .before .before in
     let a = start .args in
     let p = check-passed (a .s) _ _ _ _ _ _ _ (sym (c .before .check .ensures) ∙ c .if1 .left) in
-    (omega arith, omega (arith, p .key-is, start .pre .key))
+    (omega arith, omega (arith, p .fit .key-fits, start .pre .key))
 
 seal-requires : tie.Need-seal-requires
 seal-requires c κs =
@@ -40,8 +40,8 @@ seal-requires c κs =
     let start = after-block-of .before .before .before .before .before .before in
     let a = start .args in
     let p = check-passed (a .s) _ _ _ _ _ _ _ (sym (after-check .check .ensures) ∙ test .if1 .left) in (
-      record { fills = omega (arith, p .nonce-is, start .pre .nonce); few = omega (arith, p .header-fits, start .pre .header) },
-      record { fills = omega (arith, p .nonce-is, start .pre .nonce); few = omega (arith, p .body-fits, start .pre .body) },
+      record { fills = omega (arith, p .fit .nonce-fits, start .pre .nonce); few = omega (arith, p .fit .header-fits, start .pre .header) },
+      record { fills = omega (arith, p .fit .nonce-fits, start .pre .nonce); few = omega (arith, p .body-fits, start .pre .body) },
       omega (arith, p .room-fits, after-block-of .block-of .ensures),
     )
 
@@ -70,7 +70,7 @@ returns-2 c =
     let p = check-passed (a .s) _ _ _ _ _ _ _ (sym (after-check .check .ensures) ∙ test .if1 .left) in
     seal-does (a .s) (a .key .now) (a .nonce .now) (a .header .now) _ (after-block-of .block-of .ensures) _ (a .body .now)
     (a .room .now) (after-check .check .ensures) (test .if1 .left) _ _
-    (key-same (a .key .now) _ (omega (arith, p .key-is, start .pre .key)) (after-front .front .ensures))
+    (key-same (a .key .now) _ (omega (arith, p .fit .key-fits, start .pre .key)) (after-front .front .ensures))
     (after-seal .seal .ensures)
 
 pub seal-under-spec : {M : Type 1} → statement M
