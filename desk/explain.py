@@ -7,8 +7,12 @@ from values import number_of
 
 Number = namedtuple("Number", "title says next holds")
 
-ORDER = """\nThe checks run in the order 9, 1, 2, 3, 4, 5, 6; the first that applies answers, and 0 is the last.
+ORDER = """\nThe checks run in the order 9, 1, 2, 7, 3, 8, 4, 5, 6; the first that applies answers,
+and 0 is the last. So once its cause is put right, a later one may answer.
 `tools/desk explain 6` says more of number 6."""
+COUNT = "Count the bytes, two hex digits each; they are not to be cut or padded to fit."
+LIMIT = "8,191 blocks at most: 65,528 bytes under scheme 1, 131,056 under schemes 2 and 3."
+FROM_C = "Only a call from C gets this number: a job ends at 16,384 bytes, and a longer one is 9."
 UNCHANGED = "No output, length 0. The room of a call from C is unchanged, every byte of it."
 
 NUMBERS = {
@@ -29,18 +33,15 @@ NUMBERS = {
         UNCHANGED,
     ),
     2: Number(
-        "key or nonce of a wrong length",
-        "A key has 16 bytes under every scheme; a nonce has 6 under scheme 1, 14 under scheme 2, 15 under scheme 3.",
-        "Count the bytes, two hex digits each. A nonce that would fit another scheme may mean that the scheme is the "
-        "wrong one. Neither is to be cut or padded to fit.",
+        "key of a wrong length",
+        "A key has 16 bytes under every scheme. Nothing is said of the nonce: with the key put right, 7 may follow.",
+        f"{COUNT} See whether the file or the card's slot that the key comes from is the right one, and was read whole.",
         UNCHANGED,
     ),
     3: Number(
-        "header or body too long",
-        "Each has 8,191 blocks at most: 65,528 bytes under scheme 1, 131,056 under schemes 2 and 3. The body of a "
-        "sealed run is the run less one block.",
-        "Part the record into several, each with a nonce of its own. Only a call from C gets this number: a job ends "
-        "at 16,384 bytes, and a longer one is 9.",
+        "header too long",
+        f"A header has {LIMIT} Nothing is said of the body: with the header put right, 8 may follow.",
+        f"Shorten the header, or part the record into several, each with a header and a nonce of its own. {FROM_C}",
         UNCHANGED,
     ),
     4: Number(
@@ -66,6 +67,18 @@ NUMBERS = {
         "read from a run that answered 6.",
         "No output, length 0. The room of a call from C has as many zero bytes at its front as the body would have "
         "taken, and the rest is unchanged.",
+    ),
+    7: Number(
+        "nonce of a wrong length",
+        "A nonce has 6 bytes under scheme 1, 14 under scheme 2, 15 under scheme 3. The key's length is right.",
+        f"{COUNT} A nonce that would fit another scheme may mean that the scheme is the wrong one.",
+        UNCHANGED,
+    ),
+    8: Number(
+        "body too long",
+        f"A body has {LIMIT} The body of a sealed run is the run less one block. The header's length is right.",
+        f"Part the record into several, each with a nonce of its own. {FROM_C}",
+        UNCHANGED,
     ),
     9: Number(
         "not a job",
@@ -102,5 +115,5 @@ def explain(text):
         return listed()
     try:
         return explained(number_of(text, 9))
-    except (Trouble, KeyError):
-        raise Trouble(f"{text[:40]!r} is no answer number; they are 0 to 6 and 9") from None
+    except Trouble:
+        raise Trouble(f"{text[:40]!r} is no answer number; they are 0 to 9") from None

@@ -93,7 +93,7 @@ example:
 
 EXPLAIN = """\
 Says what an answer number means, what to check next, and what is left behind. Without a number
-it lists them all. The numbers are 0 to 6 and 9.
+it lists them all. The numbers are 0 to 9.
 """
 
 EXPLAIN_EXAMPLE = """\

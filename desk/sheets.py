@@ -2,7 +2,6 @@
 import os
 from collections import namedtuple
 
-from explain import NUMBERS
 from files import read_file
 from jobs import OPEN, SEAL, Job
 from trouble import Trouble, placed, plain
@@ -103,8 +102,6 @@ def expected(name, lines):
     expect = output = None
     if "expect" in lines:
         expect = placed(lines["expect"].place, number_of, lines["expect"].value, 9)
-        if expect not in NUMBERS:
-            raise Trouble(f"{lines['expect'].place}: {expect} is no answer number; they are 0 to 6 and 9")
     if "output" in lines:
         output = section(name, lines, "output")
         if expect != 0:

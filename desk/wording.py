@@ -22,12 +22,22 @@ def is_hex_text(data):
     return len(data) > 1 and re.fullmatch(rb"[0-9A-Fa-f\s:]+", data) is not None
 
 
-def lengths(job, scheme):
+def wrong_length(data, name, length):
     """Digits in a file in the place of the bytes that they stand for are the likeliest slip with a key's file."""
-    wrong = [name for name, data, length in (("key", job.key, KEY), ("nonce", job.nonce, scheme.nonce)) if len(data) != length]
-    digits = [name for name in wrong if is_hex_text(getattr(job, name))]
-    return (f"given a key of {count(job.key)} and a nonce of {len(job.nonce):,}; scheme {job.scheme} wants {KEY} and {scheme.nonce}"
-            + (f"; the bytes of the {digits[0]} are hex digits, and a file's bytes are taken as they are" if digits else ""))
+    digits = "; the bytes given are hex digits, and a file's bytes are taken as they are" if is_hex_text(data) else ""
+    return f"given {count(data)}, {name} has {length}{digits}"
+
+
+def nonce_length(job, scheme):
+    return wrong_length(job.nonce, f"a nonce of scheme {job.scheme}", scheme.nonce)
+
+
+def key_length(job, scheme):
+    """The check of the nonce comes after the key's; what it would say is told at once, so that both can be put right together."""
+    key = wrong_length(job.key, "a key", KEY)
+    if len(job.nonce) == scheme.nonce:
+        return key
+    return f"{key}; the nonce's length is wrong too (7): {nonce_length(job, scheme)}"
 
 
 def too_short(job, scheme):
@@ -38,7 +48,7 @@ def not_authentic(_job, _scheme):
     return "no byte of a body is given"
 
 
-DETAILS = {1: no_scheme, 2: lengths, 4: too_short, 6: not_authentic}
+DETAILS = {1: no_scheme, 2: key_length, 4: too_short, 6: not_authentic, 7: nonce_length}
 
 
 def detail(number, data, job):

@@ -21,27 +21,38 @@ class Meanings(support.DeskTest):
     def test_refused(self):
         for number, job, words in (
             (1, Job(7, 0, KEY, NONCE, b"", b""), "no such scheme: given 7; there are 1, 2 and 3"),
-            (2, Job(2, 0, KEY[1:], NONCE, b"", b""), "given a key of 15 bytes and a nonce of 14; scheme 2 wants 16 and 14"),
-            (2, Job(3, 0, KEY, NONCE, b"", b""), "given a key of 16 bytes and a nonce of 14; scheme 3 wants 16 and 15"),
-            (2, Job(1, 0, KEY, NONCE, b"", b""), "scheme 1 wants 16 and 6"),
-            (2, Job(2, 0, b"0a" * 16, NONCE, b"", b""), "; the bytes of the key are hex digits, and a file's bytes are taken as they are"),
-            (2, Job(2, 0, KEY, b"0A:" * 14 + b"\n", b"", b""), "; the bytes of the nonce are hex digits"),
-            (3, Job(1, 0, KEY, NONCE, b"", b""), "refused, header or body too long"),
+            (3, Job(1, 0, KEY, NONCE, b"", b""), "refused, header too long"),
             (4, Job(1, 1, KEY, NONCE, b"", bytes(7)), "given 7 bytes, a block of scheme 1 has 8"),
             (5, Job(2, 0, KEY, NONCE, b"", b""), "refused, room shorter than the output"),
             (6, Job(2, 1, KEY, NONCE, b"", bytes(16)), "refused, not authentic: no byte of a body is given"),
+            (8, Job(1, 0, KEY, NONCE, b"", b""), "refused, body too long"),
             (9, Job(2, 0, KEY, NONCE, b"", bytes(20000)), "not a job: it has 20,040 bytes, and 16,384 is the most"),
         ):
             with self.subTest(number=number):
                 self.assertIn(words, said(number, job))
 
-    def test_digits_that_fit(self):
-        """A key of the right length is no slip, whatever its bytes."""
-        self.assertNotIn("digits", said(2, Job(2, 0, b"0" * 16, b"", b"", b"")))
+    def test_key_and_nonce(self):
+        """A wrong key is told alone where the nonce is right, whatever its bytes; else the nonce is told with it."""
+        short_key = "key of a wrong length: given 15 bytes, a key has 16"
+        digits = "; the bytes given are hex digits, and a file's bytes are taken as they are"
+        for number, job, words in (
+            (2, Job(2, 0, KEY[1:], NONCE, b"", b""), short_key),
+            (2, Job(2, 0, KEY[1:], b"0" * 14, b"", b""), short_key),
+            (2, Job(2, 0, b"0a" * 16, NONCE, b"", b""), f"key of a wrong length: given 32 bytes, a key has 16{digits}"),
+            (2, Job(3, 0, KEY[1:], NONCE, b"", b""),
+             f"{short_key}; the nonce's length is wrong too (7): given 14 bytes, a nonce of scheme 3 has 15"),
+            (7, Job(1, 0, KEY, NONCE, b"", b""), "nonce of a wrong length: given 14 bytes, a nonce of scheme 1 has 6"),
+            (7, Job(2, 0, b"0" * 16, NONCE[1:], b"", b""), "nonce of a wrong length: given 13 bytes, a nonce of scheme 2 has 14"),
+            (7, Job(2, 0, KEY, b"0A:" * 14 + b"\n", b"", b""),
+             f"nonce of a wrong length: given 43 bytes, a nonce of scheme 2 has 14{digits}"),
+        ):
+            with self.subTest(words):
+                self.assertEqual(said(number, job), f"refused, {words}")
 
     def test_unfitting(self):
         """What sealjob says is told, also where the desk can't see why."""
-        self.assertEqual(said(2, Job(9, 0, b"", b"", b"", b"")), "refused, key or nonce of a wrong length")
+        self.assertEqual(said(2, Job(9, 0, b"", b"", b"", b"")), "refused, key of a wrong length")
+        self.assertEqual(said(7, Job(9, 0, b"", b"", b"", b"")), "refused, nonce of a wrong length")
         self.assertEqual(said(9, Job(2, 0, b"", b"", b"", b"")), "refused, not a job")
 
 
@@ -49,13 +60,13 @@ class Lines(support.DeskTest):
     def test_taken(self):
         self.assertEqual(sealjob.answer_of(b"0 2 0aff\n"), (0, b"\x0a\xff", "0 2 0aff"))
         self.assertEqual(sealjob.answer_of(b"0 0 -\n"), (0, b"", "0 0 -"))
-        for number in b"1234569":
+        for number in b"123456789":
             self.assertEqual(sealjob.answer_of(b"%c 0 -\n" % number).number, number - 48)
 
     def test_not_taken(self):
-        for printed in (b"", b"\n", b"0 2 0aff", b"0 2 0AFF\n", b"0 2 0aff\n\n", b"0 2 0aff\n0 2 0aff\n", b"0  2 0aff\n", b"7 0 -\n",
-                        b"8 0 -\n", b"10 0 -\n", b"0 02 0aff\n", b"0 1 0aff\n", b"0 2 -\n", b"0 0 \n", b"6 2 0aff\n", b"6 2 -\n",
-                        b"0 2 0af\n", b"0 2 0aff \n", b"0 2 0aff\r\n", b"\xff"):
+        for printed in (b"", b"\n", b"0 2 0aff", b"0 2 0AFF\n", b"0 2 0aff\n\n", b"0 2 0aff\n0 2 0aff\n", b"0  2 0aff\n", b"10 0 -\n",
+                        b"07 0 -\n", b"a 0 -\n", b"0 02 0aff\n", b"0 1 0aff\n", b"0 2 -\n", b"0 0 \n", b"6 2 0aff\n", b"6 2 -\n",
+                        b"7 2 0aff\n", b"8 2 -\n", b"0 2 0af\n", b"0 2 0aff \n", b"0 2 0aff\r\n", b"\xff"):
             with self.subTest(printed), self.assertRaises(Trouble):
                 sealjob.answer_of(printed)
 

@@ -5,14 +5,19 @@ import shlex
 import subprocess
 
 import support
+from schemes import KEY, SCHEMES
 
 TITLES = {
-    0: "done", 1: "no such scheme", 2: "key or nonce of a wrong length", 3: "header or body too long",
-    4: "sealed run shorter than a block", 5: "room shorter than the output", 6: "not authentic", 9: "not a job",
+    0: "done", 1: "no such scheme", 2: "key of a wrong length", 3: "header too long", 4: "sealed run shorter than a block",
+    5: "room shorter than the output", 6: "not authentic", 7: "nonce of a wrong length", 8: "body too long", 9: "not a job",
 }
 
 
 class Explain(support.DeskTest):
+    def explained(self, number):
+        """On one line, for words are wrapped."""
+        return " ".join(self.done("explain", str(number), program="false").split())
+
     def test_each(self):
         for number, title in TITLES.items():
             with self.subTest(number):
@@ -22,20 +27,37 @@ class Explain(support.DeskTest):
                     self.assertRegex(shown, f"\n  {label}  +[A-Z0-9]")
 
     def test_what_the_room_holds(self):
-        for number in (1, 2, 3, 4, 5):
-            self.assertIn("is unchanged, every", self.done("explain", str(number), program="false"))
-        self.assertIn("as many zero bytes at its front", " ".join(self.done("explain", "6", program="false").split()))
+        for number in (1, 2, 3, 4, 5, 7, 8):
+            self.assertIn("is unchanged, every", self.explained(number))
+        self.assertIn("as many zero bytes at its front", self.explained(6))
+
+    def test_key_and_nonce(self):
+        self.assertIn(f"A key has {KEY} bytes under every scheme.", self.explained(2))
+        for number, scheme in SCHEMES.items():
+            self.assertRegex(self.explained(7), f" {scheme.nonce} (bytes )?under scheme {number}[,.]")
+
+    def test_header_and_body(self):
+        """Both have the same limit, and no job is long enough for either number."""
+        small, large = (f"{8191 * SCHEMES[scheme].block:,}" for scheme in (1, 2))
+        for number, name in ((3, "header"), (8, "body")):
+            shown = self.explained(number)
+            self.assertIn(f"A {name} has 8,191 blocks at most: {small} bytes under scheme 1, {large} under schemes 2 and 3.", shown)
+            self.assertIn("Only a call from C gets this number: a job ends at 16,384 bytes", shown)
+
+    def test_what_may_follow(self):
+        """The earlier of two checks of lengths names the later."""
+        self.assertIn("Nothing is said of the nonce: with the key put right, 7 may follow.", self.explained(2))
+        self.assertIn("Nothing is said of the body: with the header put right, 8 may follow.", self.explained(3))
 
     def test_all(self):
         shown = self.done("explain", program="false")
-        for number, title in TITLES.items():
-            self.assertIn(f"{number}  {title}\n", shown)
+        self.assertTrue(shown.startswith("".join(f"{number}  {title}\n" for number, title in TITLES.items())), shown)
+        self.assertIn("\nThe checks run in the order 9, 1, 2, 7, 3, 8, 4, 5, 6; the first that applies answers,\n", shown)
 
     def test_no_number(self):
-        for text in ("7", "8", "07", "10", "six", "", "-", "-1", "6.0"):
+        for text in ("10", "77", "six", "", "-", "-1", "6.0"):
             with self.subTest(text):
-                self.complains("is no answer number; they are 0 to 6 and 9", "explain", text)
-
+                self.complains("is no answer number; they are 0 to 9", "explain", text)
 
     def test_zeros_before_a_number(self):
         self.assertEqual(self.done("explain", "006", program="false"), self.done("explain", "6", program="false"))

@@ -60,7 +60,8 @@ class Sheets(support.DeskTest):
         self.refuses("a.sheet, line 5: sealed: a sheet with 'seal' has 'body'", SMALL.replace("open", "seal") + "sealed 01")
 
     def test_expected(self):
-        self.refuses("a.sheet, line 5: expect: 7 is no answer number", SMALL + "expect 7\n" + REST)
+        self.assertEqual([sheet_of("s", f"{SMALL}{REST}expect {number}").expect for number in range(10)], list(range(10)))
+        self.refuses("a.sheet, line 5: expect: '10' is not a number from 0 to 9", SMALL + "expect 10\n" + REST)
         self.refuses("a.sheet, line 5: expect: 'no' is not a number", SMALL + "expect no\n" + REST)
         self.refuses("a.sheet, line 6: output: only with 'expect 0'", SMALL + "expect 6\noutput 01\n" + REST)
         self.refuses("a.sheet, line 5: output: only with 'expect 0'", SMALL + "output 01\n" + REST)
