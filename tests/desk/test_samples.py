@@ -4,6 +4,7 @@ import os
 
 import support
 from jobs import OPEN, SEAL
+from schemes import KEY, SCHEMES
 from sheets import read_sheet
 
 NAMES = sorted(glob.glob(os.path.join(support.ROOT, "examples", "jobs", "*.sheet")))
@@ -26,7 +27,13 @@ class Samples(support.DeskTest):
                 self.assertEqual(sheet.output is not None, sheet.expect == 0)
 
     def test_numbers(self):
-        self.assertEqual({sheet.expect for sheet in self.sheets}, {0, 1, 2, 4, 6})
+        self.assertEqual({sheet.expect for sheet in self.sheets}, {0, 1, 2, 4, 6, 7})
+
+    def test_wrong_lengths(self):
+        """The key's alone, the nonce's alone, and both."""
+        refused = [s for s in self.sheets if s.expect in (2, 7)]
+        right = {(len(s.job.key) == KEY, len(s.job.nonce) == SCHEMES[s.job.scheme].nonce): s.expect for s in refused}
+        self.assertEqual(right, {(False, True): 2, (True, False): 7, (False, False): 2})
 
     def opened(self, sealing, header):
         """The answers that sheets expect to a sealing's run under a header."""
