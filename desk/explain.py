@@ -8,7 +8,7 @@ from values import number_of
 Number = namedtuple("Number", "title says next holds")
 
 ORDER = """\nThe checks run in the order 9, 1, 2, 7, 3, 8, 4, 5, 6; the first that applies answers,
-and 0 is the last. So once its cause is put right, a later one may answer.
+and 0 is the last. So when one is put right, a later one may answer.
 `tools/desk explain 6` says more of number 6."""
 COUNT = "Count the bytes, two hex digits each; they are not to be cut or padded to fit."
 LIMIT = "8,191 blocks at most: 65,528 bytes under scheme 1, 131,056 under schemes 2 and 3."
