@@ -1,16 +1,40 @@
-//! Seal, open and view (document 01, "What a caller is told"). The checks run
-//! in the order of its table, and the first that applies answers.
+//! Seal, open and view (document 01, "What a caller is told", with the
+//! refusals of C-11). The first check that applies answers.
 
 use crate::schemes::{Keyed, Mode, Scheme};
 use crate::{paef, saef};
 
 pub const DONE: u32 = 0;
 pub const UNKNOWN_SCHEME: u32 = 1;
-pub const WRONG_LENGTH: u32 = 2;
-pub const TOO_LONG: u32 = 3;
+pub const WRONG_KEY_LENGTH: u32 = 2;
+pub const WRONG_NONCE_LENGTH: u32 = 7;
+pub const HEADER_TOO_LONG: u32 = 3;
+pub const BODY_TOO_LONG: u32 = 8;
 pub const NO_BLOCK: u32 = 4;
 pub const SHORT_ROOM: u32 = 5;
 pub const NOT_AUTHENTIC: u32 = 6;
+
+/// The refusals in the order of their checks, which is not that of their
+/// numbers.
+const REFUSALS: [u32; 8] = [
+    UNKNOWN_SCHEME,
+    WRONG_KEY_LENGTH,
+    WRONG_NONCE_LENGTH,
+    HEADER_TOO_LONG,
+    BODY_TOO_LONG,
+    NO_BLOCK,
+    SHORT_ROOM,
+    NOT_AUTHENTIC,
+];
+
+/// How many numbers an answer can have: they begin with 0 and leave none out.
+pub const NUMBERS: usize = 1 + REFUSALS.len();
+
+/// The answer where these refusals apply.
+pub fn first_of(applying: &[u32]) -> u32 {
+    let applies = |number: &u32| applying.contains(number);
+    REFUSALS.into_iter().find(applies).unwrap_or(DONE)
+}
 
 /// The length is 0 after every refusal.
 #[derive(Clone, Copy, PartialEq, Eq, Debug)]
@@ -38,18 +62,19 @@ fn refuse_if(applies: bool, number: u32) -> Result<(), u32> {
     }
 }
 
-/// Refusals 1 and 2.
+/// Refusals 1, 2 and 7.
 fn find<'a>(scheme: u32, key: &'a [u8], nonce: &'a [u8]) -> Result<Keyed<'a>, u32> {
     let scheme = Scheme::find(scheme).ok_or(UNKNOWN_SCHEME)?;
-    let key = key.try_into().map_err(|_| WRONG_LENGTH)?;
-    refuse_if(nonce.len() != scheme.nonce_bytes, WRONG_LENGTH)?;
+    let key = key.try_into().map_err(|_| WRONG_KEY_LENGTH)?;
+    refuse_if(nonce.len() != scheme.nonce_bytes, WRONG_NONCE_LENGTH)?;
     Ok(Keyed { scheme, key, nonce })
 }
 
 fn try_seal(keyed: &Keyed, header: &[u8], body: &[u8], room: &mut [u8]) -> Result<usize, u32> {
     let scheme = keyed.scheme;
     let most = scheme.most_bytes();
-    refuse_if(header.len() > most || body.len() > most, TOO_LONG)?;
+    refuse_if(header.len() > most, HEADER_TOO_LONG)?;
+    refuse_if(body.len() > most, BODY_TOO_LONG)?;
     let length = body.len() + scheme.block_bytes;
     let output = room.get_mut(..length).ok_or(SHORT_ROOM)?;
     match scheme.mode {
@@ -59,13 +84,14 @@ fn try_seal(keyed: &Keyed, header: &[u8], body: &[u8], room: &mut [u8]) -> Resul
     Ok(length)
 }
 
-/// A run shorter than a block has no body to judge by 3, only a header.
+/// A run shorter than a block has no body to judge by 8, so that 4 may come
+/// first.
 fn try_open(keyed: &Keyed, header: &[u8], run: &[u8], room: &mut [u8]) -> Result<usize, u32> {
     let scheme = keyed.scheme;
     let most = scheme.most_bytes();
-    refuse_if(header.len() > most, TOO_LONG)?;
+    refuse_if(header.len() > most, HEADER_TOO_LONG)?;
     let length = run.len().checked_sub(scheme.block_bytes).ok_or(NO_BLOCK)?;
-    refuse_if(length > most, TOO_LONG)?;
+    refuse_if(length > most, BODY_TOO_LONG)?;
     let output = room.get_mut(..length).ok_or(SHORT_ROOM)?;
     let authentic = match scheme.mode {
         Mode::Paef => paef::open(keyed, header, run, output),

@@ -1,5 +1,5 @@
-//! The desk's program of the second program, against document 01 and against
-//! its own seal and open.
+//! The desk's program of the second program, against document 01, with the
+//! refusals of C-11, and against its own seal and open.
 
 use compare::jobs::{jobs, line};
 use compare::random::Random;
@@ -157,19 +157,30 @@ fn unknown_schemes_are_1() {
     });
 }
 
+/// Whatever the nonce's length is.
 #[test]
-fn wrong_key_and_nonce_lengths_are_2() {
+fn wrong_key_lengths_are_2() {
     for_all(|scheme, direction| {
         let good = Parts::good(scheme, direction);
         for length in [0, 15, 17, 16 + 256] {
             let mut parts = good.clone();
             parts.key.resize(length, 1);
             assert_eq!(parts.line(), "2 0 -\n");
+            parts.nonce.push(1);
+            assert_eq!(parts.line(), "2 0 -\n");
         }
-        for length in [0, good.nonce.len() - 1, good.nonce.len() + 1, 16] {
+    });
+}
+
+#[test]
+fn wrong_nonce_lengths_are_7() {
+    for_all(|scheme, direction| {
+        let good = Parts::good(scheme, direction);
+        let right = good.nonce.len();
+        for length in [0, right - 1, right + 1, 16, right + 256] {
             let mut parts = good.clone();
             parts.nonce.resize(length, 1);
-            assert_eq!(parts.line(), "2 0 -\n");
+            assert_eq!(parts.line(), "7 0 -\n");
         }
     });
 }

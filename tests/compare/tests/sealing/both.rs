@@ -1,7 +1,7 @@
 //! One call made by the library and by the second program, and compared.
 
 use compare::records::{row_of, Call, Direction};
-use compare::sealing::{Answer, DONE, NOT_AUTHENTIC};
+use compare::sealing::{Answer, DONE, NOT_AUTHENTIC, NUMBERS};
 use compare::{auraski, sealing};
 
 /// Bytes behind the room that are not lent and must stay.
@@ -17,11 +17,12 @@ pub struct Outcome {
 /// How many calls were compared, by direction and answer number.
 #[derive(Default)]
 pub struct Tally {
-    seals: [usize; 7],
-    opens: [usize; 7],
+    seals: [usize; NUMBERS],
+    opens: [usize; NUMBERS],
 }
 
-/// What document 01's table says of the room, all but the output itself.
+/// What document 01's table, with C-11, says of the room, all but the output
+/// itself.
 fn fits_the_table(call: &Call, answer: Answer, before: &[u8], after: &[u8]) -> bool {
     let written = match answer.number {
         DONE => answer.length,

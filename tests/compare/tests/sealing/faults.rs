@@ -1,5 +1,5 @@
 //! Every fault by itself and every two at once: which one answers (document
-//! 01, "Checks run in this order").
+//! 01, "Checks run in this order", with the refusals of C-11).
 
 use crate::both::Tally;
 use crate::SCHEMES;
@@ -7,7 +7,8 @@ use compare::random::Random;
 use compare::records::{row_of, Call, Direction, SPARE};
 use compare::schemes::Scheme;
 use compare::sealing::{
-    DONE, NOT_AUTHENTIC, NO_BLOCK, SHORT_ROOM, TOO_LONG, UNKNOWN_SCHEME, WRONG_LENGTH,
+    first_of, BODY_TOO_LONG, DONE, HEADER_TOO_LONG, NOT_AUTHENTIC, NO_BLOCK, SHORT_ROOM,
+    UNKNOWN_SCHEME, WRONG_KEY_LENGTH, WRONG_NONCE_LENGTH,
 };
 
 #[derive(Clone, Copy, PartialEq, Debug)]
@@ -30,8 +31,10 @@ impl Fault {
     fn number(self) -> u32 {
         match self {
             Fault::Scheme(_) => UNKNOWN_SCHEME,
-            Fault::Key(_) | Fault::Nonce(_) => WRONG_LENGTH,
-            Fault::LongHeader | Fault::LongText => TOO_LONG,
+            Fault::Key(_) => WRONG_KEY_LENGTH,
+            Fault::Nonce(_) => WRONG_NONCE_LENGTH,
+            Fault::LongHeader => HEADER_TOO_LONG,
+            Fault::LongText => BODY_TOO_LONG,
             Fault::ShortRun(_) => NO_BLOCK,
             Fault::Room(_) => SHORT_ROOM,
             Fault::Damage => NOT_AUTHENTIC,
@@ -107,11 +110,9 @@ fn faulty(good: &Call, faults: &[Fault]) -> Call {
     call
 }
 
-/// The table's numbers rise in the order of its checks, so the first that
-/// applies is the least.
 fn compare_faults(tally: &mut Tally, good: &Call, faults: &[Fault]) {
-    let least = faults.iter().map(|fault| fault.number()).min();
-    tally.expect(&faulty(good, faults), least.unwrap());
+    let numbers: Vec<u32> = faults.iter().map(|fault| fault.number()).collect();
+    tally.expect(&faulty(good, faults), first_of(&numbers));
 }
 
 fn compare_pairs(tally: &mut Tally, good: &Call) {

@@ -1,9 +1,11 @@
-//! Document 01's table of answers, row by row, and the view call.
+//! Document 01's table of answers with the refusals of C-11, row by row, and
+//! the view call.
 
-use crate::{row_of, size_of, unused_room, Case, SCHEMES};
+use crate::{row_of, size_of, unused_room, Case, LIMITS, SCHEMES};
 use compare::random::Random;
 use compare::sealing::{
-    view, Answer, DONE, NOT_AUTHENTIC, NO_BLOCK, SHORT_ROOM, TOO_LONG, UNKNOWN_SCHEME, WRONG_LENGTH,
+    view, Answer, BODY_TOO_LONG, DONE, HEADER_TOO_LONG, NOT_AUTHENTIC, NO_BLOCK, SHORT_ROOM,
+    UNKNOWN_SCHEME, WRONG_KEY_LENGTH, WRONG_NONCE_LENGTH,
 };
 
 /// Refused with this number by both directions, and the room as it was. The
@@ -22,9 +24,18 @@ fn good_case(scheme: u32) -> Case {
     Case::random(&mut Random::new(61), scheme, 20)
 }
 
+/// A body, and a run, one byte above the limit.
+fn longer_texts(scheme: u32, longest: usize) -> (Vec<u8>, Vec<u8>) {
+    let body = vec![5; longest + 1];
+    let run = vec![6; longest + size_of(scheme) + 1];
+    (body, run)
+}
+
 #[test]
 fn the_numbers_are_those_of_the_table() {
-    assert_eq!((DONE, UNKNOWN_SCHEME, WRONG_LENGTH, TOO_LONG), (0, 1, 2, 3));
+    assert_eq!((DONE, UNKNOWN_SCHEME), (0, 1));
+    assert_eq!((WRONG_KEY_LENGTH, WRONG_NONCE_LENGTH), (2, 7));
+    assert_eq!((HEADER_TOO_LONG, BODY_TOO_LONG), (3, 8));
     assert_eq!((NO_BLOCK, SHORT_ROOM, NOT_AUTHENTIC), (4, 5, 6));
 }
 
@@ -40,30 +51,58 @@ fn unknown_schemes_are_1() {
 }
 
 #[test]
-fn wrong_key_and_nonce_lengths_are_2() {
+fn wrong_key_lengths_are_2() {
     for scheme in SCHEMES {
         let mut case = good_case(scheme);
         for length in [0, 1, 15, 17, 32] {
             case.key = vec![3; length];
-            assert_refused(&case, &[1; 40], &[2; 40], WRONG_LENGTH);
-        }
-        case = good_case(scheme);
-        for length in (0..=17).filter(|length| *length != row_of(scheme).nonce_bytes) {
-            case.nonce = vec![4; length];
-            assert_refused(&case, &[1; 40], &[2; 40], WRONG_LENGTH);
+            assert_refused(&case, &[1; 40], &[2; 40], WRONG_KEY_LENGTH);
         }
     }
 }
 
 #[test]
-fn one_byte_above_the_limit_is_3() {
-    for (scheme, longest) in [(1, 65_528), (2, 131_056), (3, 131_056)] {
+fn wrong_nonce_lengths_are_7() {
+    for scheme in SCHEMES {
+        let mut case = good_case(scheme);
+        for length in (0..=17).filter(|length| *length != row_of(scheme).nonce_bytes) {
+            case.nonce = vec![4; length];
+            assert_refused(&case, &[1; 40], &[2; 40], WRONG_NONCE_LENGTH);
+        }
+    }
+}
+
+/// First a key and a nonce that stand in each other's place.
+#[test]
+fn a_key_and_a_nonce_of_wrong_lengths_are_2() {
+    for scheme in SCHEMES {
+        let mut case = good_case(scheme);
+        std::mem::swap(&mut case.key, &mut case.nonce);
+        assert_refused(&case, &[1; 40], &[2; 40], WRONG_KEY_LENGTH);
+        case.key.clear();
+        case.nonce.clear();
+        assert_refused(&case, &[1; 40], &[2; 40], WRONG_KEY_LENGTH);
+    }
+}
+
+#[test]
+fn a_header_one_byte_above_the_limit_is_3() {
+    for (scheme, longest) in LIMITS {
+        let case = good_case(scheme).under(&vec![5; longest + 1]);
+        assert_refused(&case, &[1; 40], &[2; 40], HEADER_TOO_LONG);
+        // A body that is too long, or a run that is too short, comes later.
+        let (body, run) = longer_texts(scheme, longest);
+        assert_refused(&case, &body, &run, HEADER_TOO_LONG);
+        assert_refused(&case, &[], &[], HEADER_TOO_LONG);
+    }
+}
+
+#[test]
+fn a_body_one_byte_above_the_limit_is_8() {
+    for (scheme, longest) in LIMITS {
         let case = good_case(scheme);
-        let body = vec![5; longest + 1];
-        let run = vec![6; longest + size_of(scheme) + 1];
-        assert_refused(&case, &body, &run, TOO_LONG);
-        assert_refused(&case.under(&body), &[1; 40], &[2; 40], TOO_LONG);
-        assert_refused(&case.under(&body), &[], &[], TOO_LONG);
+        let (body, run) = longer_texts(scheme, longest);
+        assert_refused(&case, &body, &run, BODY_TOO_LONG);
         case.assert_not_authentic(&run[1..]);
     }
 }
@@ -137,7 +176,7 @@ fn a_run_that_is_not_authentic_is_6_and_leaves_zeros() {
 /// the table first.
 #[test]
 fn the_first_that_applies_answers() {
-    for (scheme, longest) in [(1, 65_528), (2, 131_056), (3, 131_056)] {
+    for (scheme, longest) in LIMITS {
         let good = good_case(scheme);
         let too_long = vec![1; longest + size_of(scheme) + 1];
         let mut case = Case {
@@ -155,13 +194,13 @@ fn the_first_that_applies_answers() {
         };
         assert_eq!(answers(&case), [UNKNOWN_SCHEME; 3]);
         case.scheme = scheme;
-        assert_eq!(answers(&case), [WRONG_LENGTH; 3]);
+        assert_eq!(answers(&case), [WRONG_KEY_LENGTH; 3]);
         case.key = good.key;
-        assert_eq!(answers(&case), [WRONG_LENGTH; 3]);
+        assert_eq!(answers(&case), [WRONG_NONCE_LENGTH; 3]);
         case.nonce = good.nonce;
-        assert_eq!(answers(&case), [TOO_LONG; 3]);
+        assert_eq!(answers(&case), [HEADER_TOO_LONG; 3]);
         case.header = good.header;
-        assert_eq!(answers(&case), [TOO_LONG, TOO_LONG, NO_BLOCK]);
+        assert_eq!(answers(&case), [BODY_TOO_LONG, BODY_TOO_LONG, NO_BLOCK]);
         assert_eq!(case.seal_into(&[1; 40], &mut []).number, SHORT_ROOM);
         assert_eq!(case.open_into(&[1; 40], &mut []).number, SHORT_ROOM);
         assert_eq!(case.opened(&[1; 40]).0, NOT_AUTHENTIC);
@@ -178,7 +217,7 @@ fn view_is_the_front_part_after_0_alone() {
     for length in [11, 12, usize::MAX] {
         assert!(view(DONE, length, &room).is_empty());
     }
-    for number in [1, 2, 3, 4, 5, 6, 7, u32::MAX] {
+    for number in (1..=9).chain([u32::MAX]) {
         assert!(view(number, 4, &room).is_empty());
         assert!(view(number, 10, &room).is_empty());
     }

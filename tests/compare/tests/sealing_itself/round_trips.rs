@@ -1,6 +1,6 @@
 //! What was sealed is opened, and its length is the body's and a block.
 
-use crate::{size_of, Case, SCHEMES};
+use crate::{size_of, Case, LIMITS, SCHEMES};
 use compare::blocks::pad10;
 use compare::random::Random;
 
@@ -37,7 +37,7 @@ fn longer_lengths_go_round() {
 #[test]
 fn the_longest_header_and_body_go_round() {
     let mut random = Random::new(43);
-    for (scheme, longest) in [(1, 65_528), (2, 131_056), (3, 131_056)] {
+    for (scheme, longest) in LIMITS {
         let case = Case::random(&mut random, scheme, longest);
         let body = random.bytes(longest);
         assert_eq!(case.opened(&case.sealed(&body)), (0, body));

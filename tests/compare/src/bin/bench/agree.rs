@@ -7,7 +7,7 @@ use crate::side::Side;
 use compare::random::Random;
 use compare::records::Direction;
 use compare::schemes::{Scheme, SCHEMES};
-use compare::sealing::Answer;
+use compare::sealing::{Answer, NUMBERS};
 
 const SEED: u64 = 10;
 const BLOCK_CALLS: usize = 20_000;
@@ -19,14 +19,16 @@ const MOST: usize = 100;
 /// What the room holds before a call.
 const BEFORE: u8 = 0xa5;
 
-/// What is the same for a record's calls, and how often each number has been
-/// the answer.
+/// How often each number has been the answer.
+type Answered = [usize; NUMBERS];
+
+/// What is the same for a record's calls, and where their answers are counted.
 struct Record<'a> {
     scheme: u32,
     key: Vec<u8>,
     nonce: Vec<u8>,
     header: Vec<u8>,
-    answered: &'a mut [usize; 7],
+    answered: &'a mut Answered,
 }
 
 /// One of the numbers that mean something, or the first on either side that
@@ -51,16 +53,17 @@ fn check_block_call(random: &mut Random) {
 }
 
 impl Record<'_> {
-    /// Rarely a scheme, key or nonce that is refused.
-    fn new<'a>(random: &mut Random, answered: &'a mut [usize; 7]) -> Record<'a> {
+    /// Rarely a scheme, key or nonce that is refused, or both key and nonce.
+    fn new<'a>(random: &mut Random, answered: &'a mut Answered) -> Record<'a> {
         let number = 1 + random.below(3) as u32;
         let nonce = Scheme::find(number).map_or(0, |scheme| scheme.nonce_bytes);
         let odd = random.below(100);
+        let (short_key, long_nonce) = (matches!(odd, 1 | 3), matches!(odd, 2 | 3));
         let length = random.below(MOST + 1);
         Record {
             scheme: if odd == 0 { near(random, 1, 3) } else { number },
-            key: random.bytes(if odd == 1 { 15 } else { 16 }),
-            nonce: random.bytes(if odd == 2 { nonce + 1 } else { nonce }),
+            key: random.bytes(if short_key { 15 } else { 16 }),
+            nonce: random.bytes(if long_nonce { nonce + 1 } else { nonce }),
             header: random.bytes(length),
             answered,
         }
@@ -108,10 +111,10 @@ impl Record<'_> {
     }
 }
 
-/// The longest header and body, and one byte more of each.
-fn check_limits(random: &mut Random, answered: &mut [usize; 7]) {
+/// The longest header and body, and one byte more of each and of both.
+fn check_limits(random: &mut Random, answered: &mut Answered) {
     for (scheme, row) in (1..).zip(&SCHEMES) {
-        for more in [[0, 0], [1, 0], [0, 1]] {
+        for more in [[0, 0], [1, 0], [0, 1], [1, 1]] {
             let [header, body] = more.map(|more| row.most_bytes() + more);
             let mut record = Record {
                 scheme,
@@ -131,7 +134,7 @@ fn check_limits(random: &mut Random, answered: &mut [usize; 7]) {
 /// compared.
 pub fn check() -> String {
     let mut random = Random::new(SEED);
-    let mut answered = [0; 7];
+    let mut answered = Answered::default();
     for _ in 0..BLOCK_CALLS {
         check_block_call(&mut random);
     }
@@ -146,5 +149,5 @@ pub fn check() -> String {
         "a number was never the answer: {answered:?}"
     );
     let calls: usize = answered.iter().sum();
-    format!("ours, rival and second answer alike: {BLOCK_CALLS} block calls, {calls} seals and opens (numbers 0 to 6: {answered:?})")
+    format!("ours, rival and second answer alike: {BLOCK_CALLS} block calls, {calls} seals and opens (by number from 0: {answered:?})")
 }

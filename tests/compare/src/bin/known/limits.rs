@@ -3,7 +3,7 @@
 use crate::book::Book;
 use compare::random::Random;
 use compare::records::{row_of, Call};
-use compare::sealing::{DONE, NOT_AUTHENTIC, NO_BLOCK, TOO_LONG};
+use compare::sealing::{BODY_TOO_LONG, DONE, HEADER_TOO_LONG, NOT_AUTHENTIC, NO_BLOCK};
 
 const FILLING: u8 = 0x61;
 
@@ -15,8 +15,8 @@ fn write_headers(book: &mut Book, random: &mut Random, scheme: u32) {
         let run = book.sealing(&about, &call, DONE);
         book.sealing("And open.", &call.opening(&run), DONE);
         let longer = call.with(|call| call.header = vec![FILLING; limit + 1]);
-        book.sealing("The header one byte too long.", &longer, TOO_LONG);
-        book.sealing("And open.", &longer.opening(&run), TOO_LONG);
+        book.sealing("The header one byte too long.", &longer, HEADER_TOO_LONG);
+        book.sealing("And open.", &longer.opening(&run), HEADER_TOO_LONG);
     }
 }
 
@@ -30,12 +30,12 @@ fn write_bodies(book: &mut Book, random: &mut Random, scheme: u32) {
         book.sealing("And open.", &call.opening(&run), DONE);
     }
     let call = Call::seal(random, scheme, &[FILLING; 3], &vec![FILLING; limit + 1]);
-    book.sealing("The body one byte too long.", &call, TOO_LONG);
+    book.sealing("The body one byte too long.", &call, BODY_TOO_LONG);
     let longest = call.opening(&vec![FILLING; limit + row.block_bytes]);
     let about = "The longest run that is judged; no body seals to it.";
     book.sealing(about, &longest, NOT_AUTHENTIC);
     let longer = call.opening(&vec![FILLING; limit + row.block_bytes + 1]);
-    book.sealing("A run one byte longer.", &longer, TOO_LONG);
+    book.sealing("A run one byte longer.", &longer, BODY_TOO_LONG);
 }
 
 /// A run shorter than a block has no body that could be too long.
@@ -47,7 +47,8 @@ fn write_short_runs(book: &mut Book, random: &mut Random, scheme: u32) {
     let short = call.opening(&vec![FILLING; row.block_bytes - 1]);
     book.sealing("A run one byte shorter than a block.", &short, NO_BLOCK);
     let longer = short.with(|call| call.header.push(FILLING));
-    book.sealing("The same, and the header too long.", &longer, TOO_LONG);
+    let about = "The same, and the header too long.";
+    book.sealing(about, &longer, HEADER_TOO_LONG);
     let block = call.opening(&vec![FILLING; row.block_bytes]);
     let about = "A run of a block is judged, as that of an empty body.";
     book.sealing(about, &block, NOT_AUTHENTIC);

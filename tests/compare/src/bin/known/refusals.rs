@@ -1,12 +1,14 @@
-//! Every fault alone, and two at once: the checks are made in the order 1 to
-//! 6, and the first that applies answers.
+//! Every fault alone, and two at once: the first of the checks that applies
+//! answers.
 
 use crate::book::Book;
 use compare::random::Random;
 use compare::records::{row_of, Call, Direction, SPARE};
 use compare::schemes::Scheme;
-use compare::sealing::{NOT_AUTHENTIC, NO_BLOCK, SHORT_ROOM, TOO_LONG};
-use compare::sealing::{UNKNOWN_SCHEME, WRONG_LENGTH};
+use compare::sealing::{
+    first_of, BODY_TOO_LONG, HEADER_TOO_LONG, NOT_AUTHENTIC, NO_BLOCK, SHORT_ROOM, UNKNOWN_SCHEME,
+    WRONG_KEY_LENGTH, WRONG_NONCE_LENGTH,
+};
 
 const FILLING: u8 = 0x61;
 
@@ -31,31 +33,27 @@ macro_rules! fault {
     };
 }
 
-/// Those that are met with others; one of each kind.
+/// Those that are met with others; one of each number.
 const MET: [Fault; 6] = [
     fault!(UNKNOWN_SCHEME, "no such scheme", |call, _| call.scheme = 4),
-    fault!(WRONG_LENGTH, "key of 15 bytes", |call, _| {
+    fault!(WRONG_KEY_LENGTH, "key of 15 bytes", |call, _| {
         call.key.truncate(15)
     }),
-    fault!(WRONG_LENGTH, "nonce a byte too long", |call, _| {
+    fault!(WRONG_NONCE_LENGTH, "nonce a byte too long", |call, _| {
         call.nonce.push(0)
     }),
-    fault!(TOO_LONG, "header too long", |call, row| {
+    fault!(HEADER_TOO_LONG, "header too long", |call, row| {
         call.header = vec![FILLING; row.most_bytes() + 1]
     }),
-    TEXT_TOO_LONG,
-    ROOM_TOO_SHORT,
+    fault!(BODY_TOO_LONG, "body too long", |call, row| {
+        let block = match call.direction {
+            Direction::Seal => 0,
+            Direction::Open => row.block_bytes,
+        };
+        call.text = vec![FILLING; row.most_bytes() + block + 1]
+    }),
+    fault!(SHORT_ROOM, "no room", |call, _| call.room = 0),
 ];
-
-const TEXT_TOO_LONG: Fault = fault!(TOO_LONG, "body too long", |call, row| {
-    let block = match call.direction {
-        Direction::Seal => 0,
-        Direction::Open => row.block_bytes,
-    };
-    call.text = vec![FILLING; row.most_bytes() + block + 1]
-});
-
-const ROOM_TOO_SHORT: Fault = fault!(SHORT_ROOM, "no room", |call, _| call.room = 0);
 
 /// Further ones that only an open can have.
 const OPENS: [Fault; 2] = [
@@ -76,13 +74,15 @@ const ALONE: [Fault; 8] = [
     fault!(UNKNOWN_SCHEME, "the highest number", |call, _| {
         call.scheme = u32::MAX
     }),
-    fault!(WRONG_LENGTH, "no key", |call, _| call.key.clear()),
-    fault!(WRONG_LENGTH, "key of 17 bytes", |call, _| call.key.push(0)),
-    fault!(WRONG_LENGTH, "no nonce", |call, _| call.nonce.clear()),
-    fault!(WRONG_LENGTH, "nonce a byte too short", |call, _| {
+    fault!(WRONG_KEY_LENGTH, "no key", |call, _| call.key.clear()),
+    fault!(WRONG_KEY_LENGTH, "key of 17 bytes", |call, _| {
+        call.key.push(0)
+    }),
+    fault!(WRONG_NONCE_LENGTH, "no nonce", |call, _| call.nonce.clear()),
+    fault!(WRONG_NONCE_LENGTH, "nonce a byte too short", |call, _| {
         call.nonce.pop();
     }),
-    fault!(WRONG_LENGTH, "key and nonce changed over", |call, _| {
+    fault!(WRONG_KEY_LENGTH, "key and nonce changed over", |call, _| {
         std::mem::swap(&mut call.key, &mut call.nonce)
     }),
 ];
@@ -105,21 +105,16 @@ fn faulty(good: &Call, faults: &[Fault]) -> Call {
 
 fn write_faults(book: &mut Book, good: &Call, faults: &[Fault]) {
     let names: Vec<&str> = faults.iter().map(|fault| fault.about).collect();
-    let first = faults.iter().map(|fault| fault.number).min().unwrap();
+    let numbers: Vec<u32> = faults.iter().map(|fault| fault.number).collect();
+    let first = first_of(&numbers);
     let about = format!("{}: {}.", first, names.join("; "));
     book.sealing(&about, &faulty(good, faults), first);
 }
 
-/// Two faults of one number tell nothing about the order, and two that change
-/// the same run exclude each other.
+/// Two that change the same run exclude each other.
 fn can_meet(first: &Fault, second: &Fault) -> bool {
-    let on_run = |fault: &Fault| {
-        let faults = OPENS.iter().chain([&TEXT_TOO_LONG]);
-        faults
-            .map(|other| other.about)
-            .any(|about| about == fault.about)
-    };
-    first.number != second.number && !(on_run(first) && on_run(second))
+    let on_run = |fault: &Fault| [BODY_TOO_LONG, NO_BLOCK, NOT_AUTHENTIC].contains(&fault.number);
+    !(on_run(first) && on_run(second))
 }
 
 fn write_all(book: &mut Book, good: &Call) {
