@@ -89,6 +89,10 @@ def nonce_resized(random, job):
     return job._replace(nonce=resized(random, job.nonce), direction=random.randrange(2))
 
 
+def key_and_nonce_resized(random, job):
+    return nonce_resized(random, key_resized(random, job))
+
+
 def any_scheme(random, job):
     return job._replace(scheme=random.randrange(256), direction=random.randrange(2))
 
@@ -124,6 +128,7 @@ WHOLE = (
     border_moved,
     key_resized,
     nonce_resized,
+    key_and_nonce_resized,
     any_scheme,
     other_scheme,
     any_direction,

@@ -88,6 +88,9 @@ def wrong_lengths(jobs):
         nonces = [length for length in range(18) if length != right] + [right + 256]
         wrong += [job._replace(nonce=bytes(length)) for length in nonces]
         wrong += [job._replace(key=bytes(length)) for length in (0, 1, 15, 17, 32, 255, 272)]
+        # Both at once, also changed over.
+        wrong += [job._replace(key=bytes(15), nonce=bytes(length)) for length in nonces]
+        wrong.append(job._replace(key=job.nonce, nonce=job.key))
         # Also where a fault of the run would come later.
         wrong += [job._replace(key=b"", body=b""), job._replace(nonce=b"", body=b"")]
     return wrong

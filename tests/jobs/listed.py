@@ -72,11 +72,14 @@ def empty_jobs(second, scheme):
 def refused_jobs(second, scheme):
     good = sealed(second, scheme, HEADER, BODY)
     seal, opening = good.seal, good.opening()
+    short_nonce, long_nonce = seal.nonce[:-1], seal.nonce + b"\0"
     cut = good.run[: BLOCK[scheme] - 1]
     flipped = bytes([good.run[0] ^ 1]) + good.run[1:]
     return [
         ("seal with a key of 15 bytes", 2, seal._replace(key=KEY[:15])),
-        ("open with a nonce a byte too long", 2, opening._replace(nonce=seal.nonce + b"\0")),
+        ("open with key and nonce too short", 2, opening._replace(key=KEY[:15], nonce=short_nonce)),
+        ("seal with a nonce a byte too short", 7, seal._replace(nonce=short_nonce)),
+        ("open with a nonce a byte too long", 7, opening._replace(nonce=long_nonce)),
         ("open of a byte less than a block", 4, opening._replace(body=cut)),
         ("open of a run with a bit flipped", 6, opening._replace(body=flipped)),
         ("seal cut by a byte", 9, seal.laid_out()[:-1]),

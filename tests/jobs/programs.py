@@ -12,9 +12,9 @@ import time
 
 from layout import Sealed, stream
 
-# What a job can be answered with. Never 3: its limits lie above 65,000 bytes,
-# and a job has at most 16,384. Never 5: the room is always large enough.
-ANSWERS = (0, 1, 2, 4, 6, 9)
+# What a job can be answered with. Never 3 or 8: their limits lie above 65,000
+# bytes, and a job has at most 16,384. Never 5: the room is always large enough.
+ANSWERS = (0, 1, 2, 4, 6, 7, 9)
 
 # Seconds after which a program is ended that does not end by itself. The
 # second program has all jobs to do, sealjob one.
