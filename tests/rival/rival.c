@@ -5,7 +5,7 @@
 
 #include <string.h>
 
-enum { DONE, UNKNOWN, KEY_OR_NONCE, TOO_LONG, TOO_SHORT, ROOM, FORGED };
+enum { DONE, UNKNOWN, WRONG_KEY_LENGTH, HEADER_TOO_LONG, TOO_SHORT, ROOM, FORGED, WRONG_NONCE_LENGTH, BODY_TOO_LONG };
 enum { FIRST, SECOND, BOTH };
 enum { MOST_BLOCKS = 8191, KEY_BYTES = 16 };
 
@@ -182,15 +182,20 @@ static int open_body(Call *call, const uint8_t *run, size_t left, uint8_t *out)
 /* ---- seal and open ---- */
 
 /* The checks that both have in common; sets up the call. */
-static uint32_t begin(Call *call, uint32_t scheme, const uint8_t *key, size_t key_len, const uint8_t *nonce, size_t nonce_len)
+static uint32_t begin(Call *call, uint32_t scheme, const uint8_t *key, size_t key_len, const uint8_t *nonce, size_t nonce_len,
+                      size_t header_len)
 {
     static const uint8_t NONCES[3] = {6, 14, 15};
     if (scheme < 1 || scheme > 3)
         return UNKNOWN;
-    if (key_len != KEY_BYTES || nonce_len != NONCES[scheme - 1])
-        return KEY_OR_NONCE;
+    if (key_len != KEY_BYTES)
+        return WRONG_KEY_LENGTH;
+    if (nonce_len != NONCES[scheme - 1])
+        return WRONG_NONCE_LENGTH;
     call->cipher = &CIPHERS[scheme > 1];
     call->n = call->cipher->block;
+    if (header_len > MOST_BLOCKS * call->n)
+        return HEADER_TOO_LONG;
     call->saef = scheme == 3;
     call->key = key;
     call->nonce = nonce;
@@ -204,12 +209,12 @@ uint32_t rival_seal(uint32_t scheme, const uint8_t *key, size_t key_len, const u
                     size_t room_len, size_t *length)
 {
     Call call;
-    uint32_t refused = begin(&call, scheme, key, key_len, nonce, nonce_len);
+    uint32_t refused = begin(&call, scheme, key, key_len, nonce, nonce_len, header_len);
     *length = 0;
     if (refused)
         return refused;
-    if (header_len > MOST_BLOCKS * call.n || body_len > MOST_BLOCKS * call.n)
-        return TOO_LONG;
+    if (body_len > MOST_BLOCKS * call.n)
+        return BODY_TOO_LONG;
     if (room_len < body_len + call.n)
         return ROOM;
     take_header(&call, header, header_len, body_len == 0);
@@ -223,16 +228,16 @@ uint32_t rival_open(uint32_t scheme, const uint8_t *key, size_t key_len, const u
                     size_t room_len, size_t *length)
 {
     Call call;
-    uint32_t refused = begin(&call, scheme, key, key_len, nonce, nonce_len);
+    uint32_t refused = begin(&call, scheme, key, key_len, nonce, nonce_len, header_len);
     size_t body_len;
     *length = 0;
     if (refused)
         return refused;
-    if (header_len > MOST_BLOCKS * call.n || (sealed_len >= call.n && sealed_len - call.n > MOST_BLOCKS * call.n))
-        return TOO_LONG;
     if (sealed_len < call.n)
         return TOO_SHORT;
     body_len = sealed_len - call.n;
+    if (body_len > MOST_BLOCKS * call.n)
+        return BODY_TOO_LONG;
     if (room_len < body_len)
         return ROOM;
     take_header(&call, header, header_len, body_len == 0);
