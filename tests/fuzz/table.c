@@ -6,17 +6,30 @@ const struct scheme *scheme_of(uint32_t number)
     return number >= 1 && number <= 3 ? &schemes[number - 1] : NULL;
 }
 
-uint32_t due_of_seal(const struct record *r, size_t room)
+/* By the checks that seal and open begin with: the number that is due, or 0. */
+static uint32_t due_of_both(const struct record *r, const struct scheme *scheme)
 {
-    const struct scheme *scheme = scheme_of(r->scheme);
     if (scheme == NULL) {
         return 1;
     }
-    if (r->key.size != KEY_SIZE || r->nonce.size != scheme->nonce) {
+    if (r->key.size != KEY_SIZE) {
         return 2;
     }
-    if (r->header.size > scheme->limit || r->text.size > scheme->limit) {
-        return 3;
+    if (r->nonce.size != scheme->nonce) {
+        return 7;
+    }
+    return r->header.size > scheme->limit ? 3 : 0;
+}
+
+uint32_t due_of_seal(const struct record *r, size_t room)
+{
+    const struct scheme *scheme = scheme_of(r->scheme);
+    uint32_t due = due_of_both(r, scheme);
+    if (due != 0) {
+        return due;
+    }
+    if (r->text.size > scheme->limit) {
+        return 8;
     }
     return room < r->text.size + scheme->block ? 5 : 0;
 }
@@ -24,15 +37,13 @@ uint32_t due_of_seal(const struct record *r, size_t room)
 uint32_t due_of_open(const struct record *r, size_t room, int authentic)
 {
     const struct scheme *scheme = scheme_of(r->scheme);
-    if (scheme == NULL) {
-        return 1;
-    }
-    if (r->key.size != KEY_SIZE || r->nonce.size != scheme->nonce) {
-        return 2;
+    uint32_t due = due_of_both(r, scheme);
+    if (due != 0) {
+        return due;
     }
     /* A run shorter than a block has no body that could be too long. */
-    if (r->header.size > scheme->limit || r->text.size > scheme->limit + scheme->block) {
-        return 3;
+    if (r->text.size > scheme->limit + scheme->block) {
+        return 8;
     }
     if (r->text.size < scheme->block) {
         return 4;

@@ -1,4 +1,5 @@
-/* What document 01 ("What a caller is told") says of a call of seal or open, worked out from scheme and sizes alone. */
+/* What document 01 ("What a caller is told", with the refusals of request C-11) says of a call of seal or open, worked out from scheme and
+ * sizes alone. */
 #ifndef FUZZ_TABLE_H
 #define FUZZ_TABLE_H
 
