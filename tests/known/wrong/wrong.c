@@ -16,6 +16,11 @@
  *  14  the halves are changed over
  *  15  the input comes in place of the other half
  *  16  a byte is written behind the room
+ *  17  a wrong length of the nonce is told as one of the key
+ *  18  a body that is too long is told as such a header
+ *  19  the nonce's length is judged before the key's
+ *  20  the body's length is judged before the header's
+ *  21  the room is cleared with 7 and 8
  *
  * and nothing with 0. */
 #include "wrong.h"
@@ -46,6 +51,22 @@ static size_t block_of(const struct call *c)
     return c->scheme == 1 ? 8 : 16;
 }
 
+static size_t nonce_of(const struct call *c)
+{
+    static const size_t nonces[3] = {6, 14, 15};
+    return nonces[c->scheme - 1];
+}
+
+static size_t limit_of(const struct call *c)
+{
+    return c->scheme == 1 ? 65528 : 131056;
+}
+
+static size_t longest_text_of(const struct call *c)
+{
+    return limit_of(c) + (c->opens ? block_of(c) : 0);
+}
+
 static size_t output_of(const struct call *c)
 {
     if (!c->opens)
@@ -62,18 +83,31 @@ static uint32_t right_call(const struct call *c)
 /* The number that a wrong check gives where another is right. */
 static uint32_t wrong_check(const struct call *c, uint32_t number)
 {
-    size_t limit = c->scheme == 1 ? 65528 : 131056;
     int short_run = c->opens && c->text_len < block_of(c);
-    if (is_wrong(2) && number == 2 && c->room_len < output_of(c))
+    if (is_wrong(2) && (number == 2 || number == 7) && c->room_len < output_of(c))
         return 5;
     if (is_wrong(3) && (number == 0 || number == 6) && c->room_len == output_of(c))
         return 5;
-    if (is_wrong(6) && (number == 0 || number == 6) && c->header_len == limit)
+    if (is_wrong(6) && (number == 0 || number == 6) && c->header_len == limit_of(c))
         return 3;
-    if (is_wrong(7) && number == 3 && c->header_len <= limit && c->text_len == limit + (c->opens ? block_of(c) : 0) + 1)
+    if (is_wrong(7) && number == 8 && c->text_len == longest_text_of(c) + 1)
         return c->opens ? 6 : 0;
     if (is_wrong(8) && number == 3 && short_run)
         return 4;
+    return number;
+}
+
+/* The same where one length is told for another. */
+static uint32_t wrong_length(const struct call *c, uint32_t number)
+{
+    if (is_wrong(17) && number == 7)
+        return 2;
+    if (is_wrong(18) && number == 8)
+        return 3;
+    if (is_wrong(19) && number == 2 && c->nonce_len != nonce_of(c))
+        return 7;
+    if (is_wrong(20) && number == 3 && c->text_len > longest_text_of(c))
+        return 8;
     return number;
 }
 
@@ -98,7 +132,7 @@ static uint32_t sealing(struct call c)
     uint8_t kept[1 + 131076];
     memcpy(kept + 1, c.room, c.room_len);
     uint32_t number = changed_call(c);
-    uint32_t answer = wrong_check(&c, number);
+    uint32_t answer = wrong_length(&c, wrong_check(&c, number));
     if (answer != number) {
         memcpy(c.room, kept + 1, c.room_len);
         *c.length = 0;
@@ -111,6 +145,8 @@ static uint32_t sealing(struct call c)
         c.room[output - 1] = kept[output];
     if (is_wrong(16) && number == 0)
         c.room[c.room_len] = 0;
+    if (is_wrong(21) && (number == 7 || number == 8))
+        memset(c.room, 0, c.room_len);
     return answer;
 }
 
