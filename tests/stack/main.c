@@ -18,13 +18,13 @@ static int failures;
 
 typedef struct {
     uint32_t scheme;
-    size_t block, nonce, most;
+    size_t block, key, nonce, most;
 } Scheme;
 
 static const Scheme SCHEMES[3] = {
-    {AURASKI_PAEF_64_192, AURASKI_PAEF_64_192_BLOCK, AURASKI_PAEF_64_192_NONCE, AURASKI_PAEF_64_192_LIMIT},
-    {AURASKI_PAEF_128_256, AURASKI_PAEF_128_256_BLOCK, AURASKI_PAEF_128_256_NONCE, AURASKI_PAEF_128_256_LIMIT},
-    {AURASKI_SAEF_128_256, AURASKI_SAEF_128_256_BLOCK, AURASKI_SAEF_128_256_NONCE, AURASKI_SAEF_128_256_LIMIT},
+    {AURASKI_PAEF_64_192, AURASKI_PAEF_64_192_BLOCK, AURASKI_KEY_BYTES, AURASKI_PAEF_64_192_NONCE, AURASKI_PAEF_64_192_LIMIT},
+    {AURASKI_PAEF_128_256, AURASKI_PAEF_128_256_BLOCK, AURASKI_KEY_BYTES, AURASKI_PAEF_128_256_NONCE, AURASKI_PAEF_128_256_LIMIT},
+    {AURASKI_SAEF_128_256, AURASKI_SAEF_128_256_BLOCK, AURASKI_KEY_BYTES, AURASKI_SAEF_128_256_NONCE, AURASKI_SAEF_128_256_LIMIT},
 };
 
 static uint64_t at(const void *place)
@@ -61,16 +61,16 @@ static size_t greater(size_t one, size_t other)
 static Call seal_call(const Scheme *scheme, size_t header_len, size_t body_len, size_t room_len)
 {
     Call call = {(void (*)(void))auraski_seal,
-                 {scheme->scheme, at(key), 16, at(nonce), scheme->nonce, at(header), header_len, at(body), body_len, at(room), room_len,
-                  at(&length)}};
+                 {scheme->scheme, at(key), scheme->key, at(nonce), scheme->nonce, at(header), header_len, at(body), body_len, at(room),
+                  room_len, at(&length)}};
     return call;
 }
 
 static Call open_call(const Scheme *scheme, size_t header_len, size_t run_len, size_t room_len)
 {
     Call call = {(void (*)(void))auraski_open,
-                 {scheme->scheme, at(key), 16, at(nonce), scheme->nonce, at(header), header_len, at(run), run_len, at(room), room_len,
-                  at(&length)}};
+                 {scheme->scheme, at(key), scheme->key, at(nonce), scheme->nonce, at(header), header_len, at(run), run_len, at(room),
+                  room_len, at(&length)}};
     return call;
 }
 
@@ -90,34 +90,37 @@ static void take_record(const Scheme *scheme, size_t bytes, size_t *sealing, siz
     *opening = greater(*opening, take("open, forged", &open, AURASKI_FORGED));
 }
 
-/* Refusals before any block: the greatest. */
+/* seal_call or open_call; the text is the body or the run. */
+typedef Call Making(const Scheme *scheme, size_t header_len, size_t text_len, size_t room_len);
+
+/* Refusals before any block: the greatest. The text is `more` bytes longer than the body. */
+static size_t take_refused(const char *name, Making *call_of, const Scheme *scheme, size_t more)
+{
+    Scheme unknown = *scheme, short_key = *scheme, long_nonce = *scheme;
+    size_t text_len = 16 + more, most = 0;
+    unknown.scheme = 4;
+    short_key.key--;
+    long_nonce.nonce++;
+    const Call calls[6] = {call_of(&unknown, 16, text_len, 32), call_of(&short_key, 16, text_len, 32),
+                           call_of(&long_nonce, 16, text_len, 32), call_of(scheme, scheme->most + 1, text_len, 32),
+                           call_of(scheme, 16, scheme->most + 1 + more, 32), call_of(scheme, 16, text_len, 15)};
+    const uint32_t answers[6] = {AURASKI_UNKNOWN, AURASKI_WRONG_KEY_LENGTH, AURASKI_WRONG_NONCE_LENGTH, AURASKI_HEADER_TOO_LONG,
+                                 AURASKI_BODY_TOO_LONG, AURASKI_ROOM};
+    for (int i = 0; i < 6; i++)
+        most = greater(most, take(name, &calls[i], answers[i]));
+    return most;
+}
+
 static size_t take_refused_seals(const Scheme *scheme)
 {
-    Scheme unknown = *scheme, other_nonce = *scheme;
-    unknown.scheme = 4;
-    other_nonce.nonce++;
-    Call calls[4] = {seal_call(&unknown, 16, 16, 32), seal_call(&other_nonce, 16, 16, 32),
-                     seal_call(scheme, scheme->most + 1, 16, 32), seal_call(scheme, 16, 16, 16)};
-    const uint32_t answers[4] = {AURASKI_UNKNOWN, AURASKI_KEY_OR_NONCE, AURASKI_TOO_LONG, AURASKI_ROOM};
-    size_t most = 0;
-    for (int i = 0; i < 4; i++)
-        most = greater(most, take("refused seal", &calls[i], answers[i]));
-    return most;
+    return take_refused("refused seal", seal_call, scheme, 0);
 }
 
 static size_t take_refused_opens(const Scheme *scheme)
 {
-    Scheme unknown = *scheme, other_nonce = *scheme;
-    unknown.scheme = 0;
-    other_nonce.nonce++;
-    Call calls[5] = {open_call(&unknown, 16, 32, 32), open_call(&other_nonce, 16, 32, 32),
-                     open_call(scheme, 16, scheme->most + 1 + scheme->block, 32), open_call(scheme, 16, scheme->block - 1, 32),
-                     open_call(scheme, 16, 16 + scheme->block, 15)};
-    const uint32_t answers[5] = {AURASKI_UNKNOWN, AURASKI_KEY_OR_NONCE, AURASKI_TOO_LONG, AURASKI_TOO_SHORT, AURASKI_ROOM};
-    size_t most = 0;
-    for (int i = 0; i < 5; i++)
-        most = greater(most, take("refused open", &calls[i], answers[i]));
-    return most;
+    Call short_run = open_call(scheme, 16, scheme->block - 1, 32);
+    size_t most = take("open of a short run", &short_run, AURASKI_TOO_SHORT);
+    return greater(most, take_refused("refused open", open_call, scheme, scheme->block));
 }
 
 static void print_row(const char *name, unsigned number, const size_t depths[3], size_t refused)
