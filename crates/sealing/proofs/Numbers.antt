@@ -1,6 +1,6 @@
 -- C-11, which length was wrong: what each number says, exactly, of a seal and of an open (`opens`; the words are those of
 -- specs/Numbers.antt). So a maker can go by the number: 2 is the key's length and nothing else, 7 the nonce's, 3 the header's, 8 the
--- body's, and all that is looked at before was right. 0 is what `seals-exactly` and `opens-exactly` of Demands.antt say. Assumes nothing.
+-- body's, and all that is looked at before was right. What a call gives with 0 is in Demands.antt. Assumes nothing.
 use mathlib.Core.Path.{_≡_, refl}
 use Prim.Native.Nat.{ℕ, _+_, _≤_, _<_}
 use mathlib.Core.Logic.{_↔_, Iff·trans}
@@ -10,10 +10,10 @@ use lib.ListN.{length}
 use Rattle.ciphers.specs.Ciphers.{blockOf}
 use Rattle.sealing.specs.declared.schemes.Scheme.{Scheme}
 use Rattle.sealing.specs.Calls.{opened}
-use Rattle.sealing.specs.Checks.{openCheck}
+use Rattle.sealing.specs.Checks.{checked}
 use Rattle.sealing.specs.Numbers.{answered, Under, Fitting, bodyIn, moreIn}
 use Rattle.sealing.proofs.Passed.{check-2, check-7, check-3, check-8, check-5}
-use Rattle.sealing.proofs.Said.{said, said-1, said-4, said-6, long-enough}
+use Rattle.sealing.proofs.Said.{said, said-0, said-1, said-4, said-6, long-enough}
 use Rattle.sealing.proofs.Table.{unnamed}
 
 module _ (opens : Bool) (scheme : ℕ) (key nonce header input room : List ℕ) where
@@ -56,8 +56,14 @@ module _ (opens : Bool) (scheme : ℕ) (key nonce header input room : List ℕ) 
       let (to, from) = check-5 s _ _ _ _ _ _ _ in
       (λ e. let (f, (b, (_, r))) = to e in (f, b, r), λ t. from (t .0, (t .1, (long-enough opens s (length input) (length room) (t .2), t .2))))
 
-  -- 6: an open that no check refuses, of a run that is not authentic
-  pub says-6 : (number ≡ 6) ↔ ((opens ≡ true) × Under scheme (λ s.
-      (openCheck s (length key) (length nonce) (length header) (length input) (length room) ≡ 0)
-      × (opened s key nonce header input .authentic ≡ false)))
+  -- no check applies
+  abbrev Through : Scheme → Type 0
+  Through s = checked opens s (length key) (length nonce) (length header) (length input) (length room) ≡ 0
+
+  -- 6: an open, no check applies, and the run is not authentic
+  pub says-6 : (number ≡ 6) ↔ ((opens ≡ true) × Under scheme (λ s. Through s × (opened s key nonce header input .authentic ≡ false)))
   says-6 = said-6 scheme key nonce header input room opens
+
+  -- 0: no check applies, and the run of an open is authentic
+  pub says-0 : (number ≡ 0) ↔ Under scheme (λ s. Through s × (opens ≡ true → opened s key nonce header input .authentic ≡ true))
+  says-0 = said-0 scheme key nonce header input room opens

@@ -1,7 +1,7 @@
 -- The checks, in their order: the first that applies answers with its number (01, What a caller is told; its 2 and 3 are parted by C-11).
 -- They look at lengths alone. Number 1, no such scheme, comes before them all; 6, not authentic, behind them. Assumes nothing.
 use Prim.Native.Nat.{ℕ, _+_, _-_}
-use mathlib.Core.Bool.{Bool, false, not, cond}
+use mathlib.Core.Bool.{Bool, true, false, not, cond}
 use mathlib.Core.List.{List, [], _∷_}
 use lib.Dec.{eqb, ltb}
 use Rattle.ciphers.specs.Ciphers.{blockOf}
@@ -42,3 +42,8 @@ abbrev pub openCheck : Scheme → (key nonce header run room : ℕ) → ℕ
 openCheck s key nonce header run room =
     let n = blockOf (s .cipher) in
     checkOf s key nonce header (run - n) (ltb run n) 0 room
+
+-- of either: `opens` is false for a seal, whose input is a body, and true for an open, whose input is a run
+abbrev pub checked : (opens : Bool) → Scheme → (key nonce header input room : ℕ) → ℕ
+checked false = sealCheck
+checked true = openCheck

@@ -6,7 +6,7 @@ use mathlib.Core.List.{List, [], _∷_}
 use Rattle.sealing.specs.declared.schemes.Scheme.{Scheme}
 use Rattle.sealing.specs.declared.schemes.Named.{Named}
 use Rattle.sealing.specs.declared.schemes.Named.the-variants.{Known, Unknown}
-use Rattle.sealing.specs.Checks.{sealCheck, openCheck}
+use Rattle.sealing.specs.Checks.{checked}
 use Rattle.sealing.specs.Schemes.{schemeOf}
 
 -- `input` is the body's length or, where the call is an open, the run's
@@ -82,10 +82,6 @@ figures =
     ∷ []
 
 -- ---- its two sides
-
-abbrev checked : (opens : Bool) → Scheme → (key nonce header input room : ℕ) → ℕ
-checked false = sealCheck
-checked true = openCheck
 
 -- the number by the checks, with a key and a nonce of the scheme's lengths; 1 where none is named
 abbrev numberBy : Named → Figure → ℕ

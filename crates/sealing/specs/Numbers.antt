@@ -1,5 +1,5 @@
 -- The words in which each number is explained (C-11), for both calls at once: `opens` is false for a seal, whose input is a body, and
--- true for an open, whose input is a run. Assumes nothing.
+-- true for an open, whose input is a run (as in `checked`). Assumes nothing.
 use mathlib.Core.Path.{_≡_}
 use Prim.Native.Nat.{ℕ, _-_, _≤_}
 use mathlib.Core.Bool.{Bool, true, false}
