@@ -13,7 +13,8 @@ use Rattle.sealing.specs.declared.schemes.Scheme.{Scheme}
 use Rattle.sealing.specs.declared.schemes.Named.the-variants.{Known}
 use Rattle.sealing.specs.Schemes.{schemeOf}
 use Rattle.sealing.specs.Calls.{Told, refused}
-use Rattle.sealing.specs.Numbers.{answered, bodyIn, moreIn}
+use Rattle.sealing.specs.Checks.{bodyIn, moreIn}
+use Rattle.sealing.specs.Numbers.{answered}
 use Rattle.sealing.proofs.Numbers.{says-3, says-5, says-8}
 use Rattle.sealing.proofs.Table.{each-named}
 use Rattle.job.specs.Sections.{sectionOf}

@@ -1,60 +1,66 @@
--- From the checks to what a call tells, under the scheme that its number names (C-11).
---     said             a number other than 0, 1 and 6 is told exactly where the checks answer it
---     said-0, said-6   0 and 6 where they answer 0, by whether an open's run is authentic
---     said-4           4 where a run is shorter than a block
---     said-1           1 where no scheme is named
+-- The number that a call tells (C-11): 1 where no scheme is named, else what the checks answer, and behind them 6 for a run that is
+-- not authentic.
+--     said, said-1             from a scheme's number to the call's
+--     after-check, -0, -6      which numbers come from the checks, and which behind them
+--     short-is, forged-is, ..  what only an open can have
 -- Assumes nothing.
-use mathlib.Core.Path.{_≡_, refl, sym, ap, subst}
-use Prim.Native.Nat.{ℕ, zero, suc, _+_, _-_, _<_}
+use mathlib.Core.Path.{_≡_, refl, sym, ap, subst, _∙_}
+use Prim.Native.Nat.{ℕ, zero, suc, _+_, _-_, _≤_, _<_}
 use native.Mathlib.Omega.{arith}
-use mathlib.Core.Logic.{_↔_, Iff·rfl, Iff·trans, Iff·and}
-use mathlib.Core.Bool.{Bool, true, false, cond, true≢false, false≢true}
+use mathlib.Core.Logic.{_↔_, Iff·trans}
+use mathlib.Core.Bool.{Bool, true, false, not, cond, true≢false, false≢true}
 use mathlib.Core.List.{List}
-use lib.Dec.{eqb, ltb}
+use lib.Dec.{eqb}
 use lib.ListN.{length}
-use borrow.Author.Tests.{eqb-false, ltb-true, lt-ltb, le-ltb}
+use borrow.Author.Tests.{eqb-false, ltb-true, lt-ltb, le-ltb, not-true, not-false}
 use Rattle.ciphers.specs.Ciphers.{blockOf}
-use Rattle.modes.specs.Mode.{Opened}
 use Rattle.cells.proofs.Choice.{either}
 use Rattle.sealing.specs.declared.schemes.Scheme.{Scheme}
 use Rattle.sealing.specs.declared.schemes.Named.{Named}
 use Rattle.sealing.specs.declared.schemes.Named.the-variants.{Known, Unknown}
 use Rattle.sealing.specs.Schemes.{schemeOf}
-use Rattle.sealing.specs.Calls.{Told, done, forged, judged, passed, under, sealed, opened, sealUnder, openUnder, sealOf, openOf}
-use Rattle.sealing.specs.Checks.{checkOf, checked}
-use Rattle.sealing.specs.Numbers.{answered, Under, Fitting, bodyIn, moreIn}
-use Rattle.sealing.proofs.Passed.{check-never, check-plain, check-4}
-use Rattle.sealing.proofs.Ways.{passed-all, seal-ways}
+use Rattle.sealing.specs.Calls.{Told, done, forged, passed, under, opened, sealUnder, openUnder, sealOf, openOf}
+use Rattle.sealing.specs.Checks.{bodyIn, shortIn, moreIn, checked}
+use Rattle.sealing.specs.Numbers.{answered, Under}
+use Rattle.sealing.proofs.Passed.{check-never}
 
--- ---- numbers of what is told
+-- ---- under a scheme: c is what the checks answer, f whether it is a forged run
 
--- another number than what is told where the checks passed
-passed-says : (c : ℕ) (t : Told) (room : List ℕ) (k : ℕ) → (t .number ≡ k → ⊥) → (0 ≡ k → ⊥) → (passed c t room .number ≡ k) ↔ (c ≡ k)
-passed-says zero t room k h z = (λ e. absurd (h e), λ e. absurd (z e))
-passed-says (suc c) t room k h z = (λ e. e, λ e. e)
+abbrev pub after : ℕ → Bool → ℕ
+after zero f = cond f 6 0
+after (suc c) f = suc c
 
--- a number that is told there, and by no check
-passed-ends : (c : ℕ) (t : Told) (room : List ℕ) (k : ℕ) → (c ≡ k → c ≡ 0) → (passed c t room .number ≡ k) ↔ ((c ≡ 0) × (t .number ≡ k))
-passed-ends zero t room k h = (λ e. (refl, e), λ e. e .1)
-passed-ends (suc c) t room k h = (λ e. absurd (omega (arith, h e)), λ e. absurd (omega (arith, e .0)))
+pub after-check : (c : ℕ) (f : Bool) (k : ℕ) → eqb 0 k ≡ false → eqb 6 k ≡ false → (after c f ≡ k) ↔ (c ≡ k)
+after-check zero f k not-0 not-6 = (
+  λ e. absurd (either (λ (n : ℕ). n ≡ k → ⊥) f 6 0 (eqb-false 6 k not-6) (eqb-false 0 k not-0) e),
+  λ e. absurd (eqb-false 0 k not-0 e),
+)
+after-check (suc c) f k not-0 not-6 = (λ e. e, λ e. e)
 
-judged-0 : (a : Bool) (l : ℕ) (out room : List ℕ) → (cond a (done l out room) (forged l room) .number ≡ 0) ↔ (a ≡ true)
-judged-0 true l out room = (λ _. refl, λ _. refl)
-judged-0 false l out room = (λ e. absurd (omega arith), λ e. absurd (false≢true e))
+pub after-0 : (c : ℕ) (f : Bool) → (after c f ≡ 0) ↔ ((c ≡ 0) × (f ≡ false))
+after-0 zero true = (λ e. absurd (omega arith), λ t. absurd (true≢false (t .1)))
+after-0 zero false = (λ _. (refl, refl), λ _. refl)
+after-0 (suc c) f = (λ e. absurd (omega arith), λ t. absurd (omega (arith, t .0)))
 
-judged-6 : (a : Bool) (l : ℕ) (out room : List ℕ) → (cond a (done l out room) (forged l room) .number ≡ 6) ↔ (a ≡ false)
-judged-6 true l out room = (λ e. absurd (omega arith), λ e. absurd (true≢false e))
-judged-6 false l out room = (λ _. refl, λ _. refl)
+pub after-6 : (c : ℕ) (f : Bool) → (c ≡ 6 → ⊥) → (after c f ≡ 6) ↔ ((c ≡ 0) × (f ≡ true))
+after-6 zero true none = (λ _. (refl, refl), λ _. refl)
+after-6 zero false none = (λ e. absurd (omega arith), λ t. absurd (false≢true (t .1)))
+after-6 (suc c) f none = (λ e. absurd (none e), λ t. absurd (omega (arith, t .0)))
 
--- nor is another number told of an open that the checks passed
-judged-not : (k : ℕ) → eqb 0 k ≡ false → eqb 6 k ≡ false → (o : Opened) (l : ℕ) (room : List ℕ) → judged o l room .number ≡ k → ⊥
-judged-not k not-0 not-6 o l room = either (λ (t : Told). t .number ≡ k → ⊥) (o .authentic) _ _ (eqb-false 0 k not-0) (eqb-false 6 k not-6)
+passed-number : (c : ℕ) (t : Told) (room : List ℕ) (f : Bool) → t .number ≡ cond f 6 0 → passed c t room .number ≡ after c f
+passed-number zero t room f e = e
+passed-number (suc c) t room f e = refl
+
+judged-number : (a : Bool) (l : ℕ) (out room : List ℕ) → cond a (done l out room) (forged l room) .number ≡ cond (not a) 6 0
+judged-number true l out room = refl
+judged-number false l out room = refl
+
+-- ---- under what a number names
 
 module _ (m : Named) (f : Scheme → Told) (room : List ℕ) where
   abbrev number : Named → ℕ
   number m = under m f room .number
 
-  -- another number than 1
   under-says : (k : ℕ) → (1 ≡ k → ⊥) → (number m ≡ k) ↔ ((s : Scheme) × (m ≡ Known s) × (f s .number ≡ k))
   under-says k h = (to m, λ t. subst (λ (m : Named). number m ≡ k) (sym (t .1)) (t .2))
     where
@@ -62,7 +68,6 @@ module _ (m : Named) (f : Scheme → Told) (room : List ℕ) where
       to (Known s) e = (s, refl, e)
       to Unknown e = absurd (h e)
 
-  -- 1, which is told under no scheme
   under-1 : ((s : Scheme) → f s .number ≡ 1 → ⊥) → (number m ≡ 1) ↔ (m ≡ Unknown)
   under-1 none = (to m, λ e. ap number e)
     where
@@ -70,115 +75,72 @@ module _ (m : Named) (f : Scheme → Told) (room : List ℕ) where
       to (Known s) e = absurd (none s e)
       to Unknown e = refl
 
--- what is the same of each scheme
 under-each : (number : ℕ) (P Q : Scheme → Type 0) → ((s : Scheme) → P s ↔ Q s) → Under number P ↔ Under number Q
 under-each number P Q f = (λ t. (t .0, t .1, f (t .0) .0 (t .2)), λ t. (t .0, t .1, f (t .0) .1 (t .2)))
 
--- ---- of a call
+-- ---- what only an open can have: a run shorter than a block, and one that is not authentic
 
--- only a run can be shorter than a block, and then no room is too short for its body
-abbrev pub shortIn : (opens : Bool) → Scheme → ℕ → Bool
-shortIn false s input = false
-shortIn true s input = ltb input (blockOf (s .cipher))
+module _ (s : Scheme) (input : ℕ) where
+  pub short-is : (opens : Bool) → (shortIn opens s input ≡ true) ↔ ((opens ≡ true) × (input < blockOf (s .cipher)))
+  short-is false = (λ e. absurd (false≢true e), λ t. t .0)
+  short-is true = (λ e. (refl, ltb-true _ _ e), λ t. lt-ltb _ _ (t .1))
 
-pub long-enough : (opens : Bool) (s : Scheme) (input room : ℕ) → room < bodyIn opens s input + moreIn opens s → shortIn opens s input ≡ false
-long-enough false s input room h = refl
-long-enough true s input room h = le-ltb input (blockOf (s .cipher)) (omega arith)
+  -- a short run has no body, so that none is too long and no room too short for it
+  pub short-fits : (opens : Bool) → shortIn opens s input ≡ true → bodyIn opens s input ≤ s .body
+  short-fits false e = absurd (false≢true e)
+  short-fits true e = omega (arith, ltb-true input (blockOf (s .cipher)) e)
 
-module _ (scheme : ℕ) (key nonce header input room : List ℕ) where
-  -- what the checks answer under a scheme
+  pub not-short : (opens : Bool) (room : ℕ) → room < bodyIn opens s input + moreIn opens s → shortIn opens s input ≡ false
+  not-short false room h = refl
+  not-short true room h = le-ltb input (blockOf (s .cipher)) (omega arith)
+
+abbrev pub forgedIn : (opens authentic : Bool) → Bool
+forgedIn false a = false
+forgedIn true a = not a
+
+pub forged-is : (opens a : Bool) → (forgedIn opens a ≡ true) ↔ ((opens ≡ true) × (a ≡ false))
+forged-is false a = (λ e. absurd (false≢true e), λ t. t .0)
+forged-is true a = (λ e. (refl, not-true a e), λ t. ap not (t .1))
+
+pub not-forged : (opens a : Bool) → (forgedIn opens a ≡ false) ↔ (opens ≡ true → a ≡ true)
+not-forged false a = (λ _ e. absurd (false≢true e), λ _. refl)
+not-forged true a = (λ e _. not-false a e, λ h. ap not (h refl))
+
+-- ---- the call's number
+
+module _ (opens : Bool) (scheme : ℕ) (key nonce header input room : List ℕ) where
   abbrev pub checkIn : (opens : Bool) → Scheme → ℕ
-  checkIn opens s =
-      checkOf s (length key) (length nonce) (length header) (bodyIn opens s (length input)) (shortIn opens s (length input))
-      (moreIn opens s) (length room)
+  checkIn opens s = checked opens s (length key) (length nonce) (length header) (length input) (length room)
 
-  by-scheme : (k : ℕ) → eqb 1 k ≡ false → (Q : Scheme → Type 0) (call : Scheme → Told) → ((s : Scheme) → (call s .number ≡ k) ↔ Q s)
-      → (under (schemeOf scheme) call room .number ≡ k) ↔ Under scheme Q
-  by-scheme k not-1 Q call f =
-      Iff·trans (under-says (schemeOf scheme) call room k (eqb-false 1 k not-1)) (under-each scheme (λ s. call s .number ≡ k) Q f)
+  abbrev pub numberIn : (opens : Bool) → Scheme → ℕ
+  numberIn opens s = after (checkIn opens s) (forgedIn opens (opened s key nonce header input .authentic))
 
-  module _ (k : ℕ) (not-0 : eqb 0 k ≡ false) (not-1 : eqb 1 k ≡ false) (not-6 : eqb 6 k ≡ false) (Q : Scheme → Type 0) where
-    zero-not : 0 ≡ k → ⊥
-    zero-not = eqb-false 0 k not-0
+  abbrev call : (opens : Bool) → Scheme → Told
+  call false s = sealUnder s key nonce header input room
+  call true s = openUnder s key nonce header input room
 
-    pub said : (opens : Bool) → ((s : Scheme) → (checkIn opens s ≡ k) ↔ Q s)
-        → (answered opens scheme key nonce header input room .number ≡ k) ↔ Under scheme Q
-    unfolding sealOf sealUnder openOf openUnder
-    said false f =
-        by-scheme k not-1 Q (λ s. sealUnder s key nonce header input room) λ s.
-        Iff·trans (passed-says (checkIn false s) (done _ (sealed s key nonce header input) room) room k zero-not zero-not) (f s)
-    said true f =
-        by-scheme k not-1 Q (λ s. openUnder s key nonce header input room) λ s.
-        let o = opened s key nonce header input in
-        let l = length input - blockOf (s .cipher) in
-        Iff·trans (passed-says (checkIn true s) (judged o l room) room k (judged-not k not-0 not-6 o l room) zero-not) (f s)
-
-  abbrev Short : Scheme → Type 0
-  Short s = Fitting s (length key) (length nonce) (length header) × (length input < blockOf (s .cipher))
-
-  pub said-4 : (opens : Bool)
-      → (answered opens scheme key nonce header input room .number ≡ 4) ↔ ((opens ≡ true) × Under scheme Short)
-  said-4 false =
-      let none = said 4 refl refl refl (λ s. ⊥) false λ s. (λ e. false≢true (check-4 s _ _ _ _ _ _ _ .0 e .1 .1), λ h. absurd h) in
-      (λ e. absurd (none .0 e .2), λ t. absurd (false≢true (t .0)))
-  said-4 true =
-      let both = said 4 refl refl refl Short true λ s.
-      let (is, was) = check-4 s _ _ _ _ _ _ _ in
-      (λ e. let (f, (_, h)) = is e in (f, ltb-true _ _ h), λ t. was (t .0, (omega (arith, t .1), lt-ltb _ _ (t .1)))) in
-      (λ e. (refl, both .0 e), λ t. both .1 (t .1))
-
-  -- no check applies
-  abbrev Through : (opens : Bool) → Scheme → Type 0
-  Through opens s = checked opens s (length key) (length nonce) (length header) (length input) (length room) ≡ 0
-
-  abbrev authentic : Scheme → Bool
-  authentic s = opened s key nonce header input .authentic
-
-  -- the number of an open that is told behind the checks
-  judged-says : (k : ℕ) → eqb 1 k ≡ false → ((s : Scheme) → checkIn true s ≡ k → checkIn true s ≡ 0) → (b : Bool)
-      → ((a : Bool) (l : ℕ) (out : List ℕ) → (cond a (done l out room) (forged l room) .number ≡ k) ↔ (a ≡ b))
-      → (openOf scheme key nonce header input room .number ≡ k) ↔ Under scheme (λ s. Through true s × (authentic s ≡ b))
-  unfolding openOf openUnder
-  judged-says k not-1 no-check b judged-k =
-      by-scheme k not-1 (λ s. Through true s × (authentic s ≡ b)) (λ s. openUnder s key nonce header input room) λ s.
+  call-number : (opens : Bool) (s : Scheme) → call opens s .number ≡ numberIn opens s
+  unfolding sealUnder openUnder
+  call-number false s = passed-number (checkIn false s) _ room false refl
+  call-number true s =
       let o = opened s key nonce header input in
-      let l = length input - blockOf (s .cipher) in
-      Iff·trans (passed-ends (checkIn true s) (judged o l room) room k (no-check s)) (Iff·and Iff·rfl (judged-k (o .authentic) l (o .body)))
+      passed-number (checkIn true s) _ room (not (o .authentic)) (judged-number (o .authentic) (length input - blockOf (s .cipher)) (o .body) room)
 
-  pub said-0 : (opens : Bool)
-      → (answered opens scheme key nonce header input room .number ≡ 0)
-      ↔ Under scheme (λ s. Through opens s × (opens ≡ true → authentic s ≡ true))
-  unfolding sealOf sealUnder
-  said-0 false =
-      by-scheme 0 refl (λ s. Through false s × (false ≡ true → authentic s ≡ true)) (λ s. sealUnder s key nonce header input room) λ s.
-      Iff·trans
-      (passed-ends (checkIn false s) (done (length input + blockOf (s .cipher)) (sealed s key nonce header input) room) room 0 (λ e. e))
-      (λ e. (e .0, λ f. absurd (false≢true f)), λ e. (e .0, refl))
-  said-0 true =
-      Iff·trans (judged-says 0 refl (λ s e. e) true (λ a l out. judged-0 a l out room))
-      (under-each scheme (λ s. Through true s × (authentic s ≡ true)) (λ s. Through true s × (true ≡ true → authentic s ≡ true)) λ s.
-      (λ e. (e .0, λ _. e .1), λ e. (e .0, e .1 refl)))
+  by-name : (opens : Bool) → answered opens scheme key nonce header input room .number ≡ under (schemeOf scheme) (call opens) room .number
+  unfolding sealOf openOf
+  by-name false = refl
+  by-name true = refl
 
-  pub said-6 : (opens : Bool)
-      → (answered opens scheme key nonce header input room .number ≡ 6)
-      ↔ ((opens ≡ true) × Under scheme (λ s. Through opens s × (authentic s ≡ false)))
-  said-6 false = (
-    λ e.
-        absurd (seal-ways (λ (t : Told). t .number ≡ 6 → ⊥) key nonce header scheme input room
-        (λ l out. eqb-false 0 6 refl) (λ k p. p .not-6) e),
-    λ t. absurd (false≢true (t .0)),
-  )
-  said-6 true =
-      let both = judged-says 6 refl (λ s e. absurd (check-plain s _ _ _ _ _ _ _ .not-6 e)) false (λ a l out. judged-6 a l out room) in
-      (λ e. (refl, both .0 e), λ t. both .1 (t .1))
+  pub said : (k : ℕ) → eqb 1 k ≡ false → (Q : Scheme → Type 0) → ((s : Scheme) → (numberIn opens s ≡ k) ↔ Q s)
+      → (answered opens scheme key nonce header input room .number ≡ k) ↔ Under scheme Q
+  said k not-1 Q f =
+      let u = under-says (schemeOf scheme) (call opens) room k (eqb-false 1 k not-1) in
+      Iff·trans (λ e. u .0 (sym (by-name opens) ∙ e), λ t. by-name opens ∙ u .1 t)
+      (under-each scheme (λ s. call opens s .number ≡ k) Q λ s.
+      (λ e. f s .0 (sym (call-number opens s) ∙ e), λ q. call-number opens s ∙ f s .1 q))
 
-  pub said-1 : (opens : Bool) → (answered opens scheme key nonce header input room .number ≡ 1) ↔ (schemeOf scheme ≡ Unknown)
-  unfolding sealOf sealUnder openOf openUnder
-  said-1 false =
-      under-1 (schemeOf scheme) _ room λ s.
-      passed-all (λ (t : Told). t .number ≡ 1 → ⊥) (checkIn false s) _ room (eqb-false 0 1 refl) (check-never s _ _ _ _ _ _ _ 1 refl)
-  said-1 true =
-      under-1 (schemeOf scheme) _ room λ s.
-      passed-all (λ (t : Told). t .number ≡ 1 → ⊥) (checkIn true s) _ room
-      (judged-not 1 refl refl (opened s key nonce header input) _ room)
-      (check-never s _ _ _ _ _ _ _ 1 refl)
+  pub said-1 : (answered opens scheme key nonce header input room .number ≡ 1) ↔ (schemeOf scheme ≡ Unknown)
+  said-1 =
+      let u = under-1 (schemeOf scheme) (call opens) room λ s e.
+      check-never s _ _ _ _ _ _ _ 1 refl (after-check (checkIn opens s) _ 1 refl refl .0 (sym (call-number opens s) ∙ e)) in
+      (λ e. u .0 (sym (by-name opens) ∙ e), λ t. by-name opens ∙ u .1 t)

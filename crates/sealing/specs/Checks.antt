@@ -33,17 +33,27 @@ checks s key nonce header body short more room =
 unfoldable pub checkOf : Scheme → (key nonce header body : ℕ) (short : Bool) (more room : ℕ) → ℕ
 checkOf s key nonce header body short more room = first (checks s key nonce header body short more room)
 
--- of a seal: the output is a block longer than the body
-abbrev pub sealCheck : Scheme → (key nonce header body room : ℕ) → ℕ
-sealCheck s key nonce header body room = checkOf s key nonce header body false (blockOf (s .cipher)) room
+-- ---- of a call: `opens` is false for a seal, whose input is a body, and true for an open, whose input is a run
 
--- of an open: the body is a block shorter than the run
-abbrev pub openCheck : Scheme → (key nonce header run room : ℕ) → ℕ
-openCheck s key nonce header run room =
-    let n = blockOf (s .cipher) in
-    checkOf s key nonce header (run - n) (ltb run n) 0 room
+-- a run is a block longer than its body
+abbrev pub bodyIn : (opens : Bool) → Scheme → ℕ → ℕ
+bodyIn false s input = input
+bodyIn true s input = input - blockOf (s .cipher)
 
--- of either: `opens` is false for a seal, whose input is a body, and true for an open, whose input is a run
+abbrev pub shortIn : (opens : Bool) → Scheme → ℕ → Bool
+shortIn false s input = false
+shortIn true s input = ltb input (blockOf (s .cipher))
+
+abbrev pub moreIn : (opens : Bool) → Scheme → ℕ
+moreIn false s = blockOf (s .cipher)
+moreIn true s = 0
+
 abbrev pub checked : (opens : Bool) → Scheme → (key nonce header input room : ℕ) → ℕ
-checked false = sealCheck
-checked true = openCheck
+checked opens s key nonce header input room =
+    checkOf s key nonce header (bodyIn opens s input) (shortIn opens s input) (moreIn opens s) room
+
+abbrev pub sealCheck : Scheme → (key nonce header body room : ℕ) → ℕ
+sealCheck = checked false
+
+abbrev pub openCheck : Scheme → (key nonce header run room : ℕ) → ℕ
+openCheck = checked true

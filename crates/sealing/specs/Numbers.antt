@@ -1,10 +1,8 @@
--- The words in which each number is explained (C-11), for both calls at once: `opens` is false for a seal, whose input is a body, and
--- true for an open, whose input is a run (as in `checked`). Assumes nothing.
+-- The words in which each number is explained (C-11), for both calls at once: `opens` is as in Checks.antt. Assumes nothing.
 use mathlib.Core.Path.{_≡_}
-use Prim.Native.Nat.{ℕ, _-_, _≤_}
+use Prim.Native.Nat.{ℕ, _≤_}
 use mathlib.Core.Bool.{Bool, true, false}
 use mathlib.Core.List.{List}
-use Rattle.ciphers.specs.Ciphers.{blockOf}
 use Rattle.sealing.specs.declared.schemes.Scheme.{Scheme}
 use Rattle.sealing.specs.declared.schemes.Named.the-variants.{Known}
 use Rattle.sealing.specs.Schemes.{schemeOf}
@@ -23,13 +21,3 @@ pub record Fitting (s : Scheme) (key nonce header : ℕ) : Type 0 where
   pub key-fits : key ≡ s .key
   pub nonce-fits : nonce ≡ s .nonce
   pub header-fits : header ≤ s .header
-
--- the length of the body, from the input's
-abbrev pub bodyIn : (opens : Bool) → Scheme → ℕ → ℕ
-bodyIn false s input = input
-bodyIn true s input = input - blockOf (s .cipher)
-
--- by how much the output is longer than the body
-abbrev pub moreIn : (opens : Bool) → Scheme → ℕ
-moreIn false s = blockOf (s .cipher)
-moreIn true s = 0
