@@ -30,16 +30,16 @@ plain-1 = record { not-6 = eqb-false 1 6 refl; not-9 = eqb-false 1 9 refl }
 
 -- ---- the tests
 
-pub same-passes : (a b : ℕ) → (not (eqb a b) ≡ false) ↔ (a ≡ b)
+same-passes : (a b : ℕ) → (not (eqb a b) ≡ false) ↔ (a ≡ b)
 same-passes a b = (λ e. eqb-true a b (not-false _ e), λ e. ap not (eq-eqb a b e))
 
-pub same-fails : (a b : ℕ) → (not (eqb a b) ≡ true) ↔ (a ≡ b → ⊥)
+same-fails : (a b : ℕ) → (not (eqb a b) ≡ true) ↔ (a ≡ b → ⊥)
 same-fails a b = (λ e. eqb-false a b (not-true _ e), λ h. ap not (ne-eqb a b h))
 
-pub within-passes : (a b : ℕ) → (ltb a b ≡ false) ↔ (b ≤ a)
+within-passes : (a b : ℕ) → (ltb a b ≡ false) ↔ (b ≤ a)
 within-passes a b = (ltb-false a b, le-ltb a b)
 
-pub within-fails : (a b : ℕ) → (ltb a b ≡ true) ↔ (a < b)
+within-fails : (a b : ℕ) → (ltb a b ≡ true) ↔ (a < b)
 within-fails a b = (ltb-true a b, lt-ltb a b)
 
 -- ---- the checks

@@ -32,8 +32,8 @@ pub none-named : (number : ℕ) → (number ≡ 1 → ⊥) → (number ≡ 2 →
 unfolding schemeOf
 none-named number a b c = simp (ne-eqb number 1 a, ne-eqb number 2 b, ne-eqb number 3 c)
 
-known : (s : Scheme) → Known s ≡ Unknown → ⊥
-known s e = subst Is-known e tt
+known≢unknown : (s : Scheme) → Known s ≡ Unknown → ⊥
+known≢unknown s e = subst Is-known e tt
   where
     Is-known : Named → Type 0
     Is-known (Known s) = Unit
@@ -42,8 +42,8 @@ known s e = subst Is-known e tt
 pub unnamed : (number : ℕ) → (schemeOf number ≡ Unknown) ↔ ((number ≡ 1 → ⊥) × (number ≡ 2 → ⊥) × (number ≡ 3 → ⊥))
 unnamed number = (
   λ u.
-      let not : (k : ℕ) (s : Scheme) → schemeOf k ≡ Known s → number ≡ k → ⊥ = λ k s n e. known s (sym n ∙ ap schemeOf (sym e) ∙ u) in
-      (not 1 scheme1 named-1, not 2 scheme2 named-2, not 3 scheme3 named-3),
+      let other : (k : ℕ) (s : Scheme) → schemeOf k ≡ Known s → number ≡ k → ⊥ = λ k s n e. known≢unknown s (sym n ∙ ap schemeOf (sym e) ∙ u) in
+      (other 1 scheme1 named-1, other 2 scheme2 named-2, other 3 scheme3 named-3),
   λ h. none-named number (h .0) (h .1) (h .2),
 )
 
