@@ -2,18 +2,17 @@
 use mathlib.Core.Path.{_≡_, refl, ap, _∙_}
 use Prim.Native.Nat.{ℕ, _+_, _-_, _≤_}
 use native.Mathlib.Omega.{arith}
-use mathlib.Core.Bool.{false}
+use mathlib.Core.Bool.{true, false}
 use mathlib.Core.List.{List}
-use lib.Dec.{ltb}
 use lib.ListN.{length}
 use borrow.Author.Tests.{ltb-false, le-ltb}
 use Rattle.ciphers.specs.Ciphers.{blockOf}
 use Rattle.sealing.specs.declared.schemes.Scheme.{Scheme}
-use Rattle.sealing.specs.Checks.{checkOf}
 use Rattle.sealing.specs.Calls.{done, judged, passed, sealed, opened, sealUnder, openUnder, sealOf, openOf}
 use Rattle.sealing.specs.Demands.{Admitted}
-use Rattle.sealing.proofs.Passed.{Passed, check-pass, check-passed, check-long, was-passed}
-use Rattle.sealing.proofs.Table.{seal-known, open-known}
+use Rattle.sealing.proofs.Numbers.{says-0}
+use Rattle.sealing.proofs.Passed.{Passed, check-pass, check-passed, check-long}
+use Rattle.sealing.proofs.Table.{of-named, seal-known, open-known}
 
 module _ (number : ℕ) (s : Scheme) (key nonce header : List ℕ) (ok : Admitted number s key nonce header) where
   abbrev n : ℕ
@@ -48,17 +47,16 @@ module _ (number : ℕ) (s : Scheme) (key nonce header : List ℕ) (ok : Admitte
 
   pub sealed-fits : (body room : List ℕ) → sealOf number key nonce header body room .number ≡ 0
       → (length body ≤ s .body) × (length body + n ≤ length room)
-  unfolding sealUnder
   sealed-fits body room e =
-      let k : checkOf s (length key) (length nonce) (length header) (length body) false n (length room) ≡ 0
-      = was-passed _ _ room (rw (seal-known number s (ok .named) key nonce header body room) at e) in
-      let p = check-passed s _ _ _ _ _ _ _ k in
+      let (c, _) = of-named _ number s (ok .named) (says-0 false number key nonce header body room .0 e) in
+      let p = check-passed s _ _ _ _ _ _ _ c in
       (p .body-fits, p .room-fits)
 
   pub opened-fits : (run room : List ℕ) → openOf number key nonce header run room .number ≡ 0
-      → (n ≤ length run) × (length run ≤ s .body + n)
-  unfolding openUnder
+      → (n ≤ length run) × (length run ≤ s .body + n) × (opened s key nonce header run .authentic ≡ true)
   opened-fits run room e =
-      let k : checkOf s (length key) (length nonce) (length header) (length run - n) (ltb (length run) n) 0 (length room) ≡ 0
-      = was-passed _ _ room (rw (open-known number s (ok .named) key nonce header run room) at e) in
-      (ltb-false (length run) n (check-long s _ _ _ _ _ _ _ k), omega (arith, check-passed s _ _ _ _ _ _ _ k .body-fits))
+      let (c, a) = of-named _ number s (ok .named) (says-0 true number key nonce header run room .0 e) in (
+        ltb-false (length run) n (check-long s _ _ _ _ _ _ _ c),
+        omega (arith, check-passed s _ _ _ _ _ _ _ c .body-fits),
+        a refl,
+      )

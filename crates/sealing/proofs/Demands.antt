@@ -5,6 +5,7 @@ use mathlib.Core.Path.{_≡_, refl, sym, _∙_}
 use Prim.Native.Nat.{ℕ, _+_, _-_, _≤_, _<_}
 use native.Mathlib.Omega.{arith}
 use mathlib.Core.Logic.{_↔_}
+use mathlib.Core.Bool.{true}
 use mathlib.Core.List.{List}
 use lib.ListN.{length, take}
 use Rattle.cells.specs.Cells.{Bytes, Block}
@@ -31,9 +32,10 @@ use Rattle.sealing.specs.Figures.{figures, allAnswered, allStated}
 use Rattle.sealing.specs.View.{viewOf}
 use Rattle.sealing.proofs.Admitted.{seal-admitted, open-admitted}
 use Rattle.sealing.proofs.Exactly.{seal-writes, seal-wrote, long, opens-iff, one-body, body-returned, none-forged, sealed-opens}
+use Rattle.sealing.proofs.Numbers.{says-6}
 use Rattle.sealing.proofs.Passed.{all-passed, not-passed}
 use Rattle.sealing.proofs.Table.{seal-known, open-known, none-named}
-use Rattle.sealing.proofs.Ways.{seal-ways, open-ways, forged-named, forged-under, no-length, told-same}
+use Rattle.sealing.proofs.Ways.{seal-ways, open-ways, forged-under, no-length, told-same}
 
 -- ---- demand 1: refusals come in one fixed order (specs/Checks.antt), each with its number, length zero and fixed contents of the
 -- room; and a contract leaves a caller one result
@@ -113,7 +115,7 @@ pub same-forged : (scheme : ℕ) (key nonce header run key′ nonce′ header′
     → openOf scheme key nonce header run room .number ≡ 6 → openOf scheme key′ nonce′ header′ run′ room .number ≡ 6
     → openOf scheme key nonce header run room ≡ openOf scheme key′ nonce′ header′ run′ room
 same-forged scheme key nonce header run key′ nonce′ header′ run′ room l e e′ =
-    let (s, known) = forged-named scheme key nonce header run room e in
+    let (s, known, _) = says-6 true scheme key nonce header run room .0 e in
     rw (open-forged scheme s key nonce header run room known e, open-forged scheme s key′ nonce′ header′ run′ room known e′, l)
 
 -- ---- demand 2: what is computed is PAEF and SAEF over ForkSkinny as published

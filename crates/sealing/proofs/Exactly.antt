@@ -11,7 +11,7 @@ use lib.Seq.{take-at}
 use Rattle.cells.specs.Cells.{Bytes, Block}
 use Rattle.ciphers.specs.declared.Cipher.{Cipher}
 use Rattle.ciphers.specs.Ciphers.{blockOf}
-use Rattle.modes.specs.Mode.{Mode, Opened}
+use Rattle.modes.specs.Mode.{Mode}
 use Rattle.modes.specs.Lawful.{Lawful}
 use Rattle.modes.proofs.Exact.{seal-run-block, seal-open, exact, unique, refused-iff}
 use Rattle.modes.proofs.PaefLaws.{SumOk, paef-lawful}
@@ -39,11 +39,6 @@ mode-lawful : (k : Kind) (c : Cipher) (key nonce : List ℕ) (ν : ℕ) → ν +
     → Lawful (blockOf c) (modeOf k c key nonce) (OkOf k (blockOf c))
 mode-lawful Paef c key nonce ν e hk hn = paef-lawful (blockOf c) ν (skinny c key) (skinny-laws c key hk) e nonce hn
 mode-lawful Saef c key nonce ν e hk hn = saef-lawful (blockOf c) ν (skinny c key) (skinny-laws c key hk) e nonce hn
-
--- 0 is told only of a run that is authentic
-authentic-told : (b : Bool) (l : ℕ) (out room : List ℕ) → cond b (done l out room) (forged l room) .number ≡ 0 → b ≡ true
-authentic-told true l out room e = refl
-authentic-told false l out room e = absurd (omega arith)
 
 module _ (number : ℕ) (s : Scheme) (key nonce header : List ℕ) (ok : Admitted number s key nonce header) where
   abbrev n : ℕ
@@ -109,13 +104,9 @@ module _ (number : ℕ) (s : Scheme) (key nonce header : List ℕ) (ok : Admitte
 
     pub opens-iff : (openOf number key nonce header run room .number ≡ 0) ↔ ((body : List ℕ) × SealsTo s key nonce header body run)
     opens-iff = (
-      λ e. let f = opened-fits number s key nonce header ok run room e in
-          let o : Opened = opened s key nonce header run in
-          let a : o .authentic ≡ true
-          = authentic-told _ (length run - n) (o .body) room
-          (rw (open-admitted number s key nonce header ok run room (f .0) (f .1) enough) at e) in
-          let q = seal-open n M Ok lawful header (ok .header-bytes) run hr (f .0) a in
-          (o .body, record { body-bytes = q .0 .bytes; body-fits = omega (arith, q .0 .long); published = q .1 }),
+      λ e. let (l, most, a) = opened-fits number s key nonce header ok run room e in
+          let q = seal-open n M Ok lawful header (ok .header-bytes) run hr l a in
+          (opened s key nonce header run .body, record { body-bytes = q .0 .bytes; body-fits = omega (arith, q .0 .long); published = q .1 }),
       λ t. ap (λ (u : Told). u .number) (body-returned (t .0) (t .1)),
     )
 

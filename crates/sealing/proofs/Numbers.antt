@@ -36,11 +36,11 @@ module _ (opens : Bool) (scheme : ℕ) (key nonce header input room : List ℕ) 
   by-check : (k : ℕ) → eqb 0 k ≡ false → eqb 1 k ≡ false → eqb 6 k ≡ false → (Q : Scheme → Type 0)
       → ((s : Scheme) → (check s ≡ k) ↔ Q s) → (number ≡ k) ↔ Under scheme Q
   by-check k not-0 not-1 not-6 Q f =
-      said opens scheme key nonce header input room k not-1 Q λ s. Iff·trans (after-check _ _ k not-0 not-6) (f s)
+      said key nonce header input room opens scheme k not-1 Q λ s. Iff·trans (after-check _ _ k not-0 not-6) (f s)
 
   -- 1: no scheme has this number
   pub says-1 : (number ≡ 1) ↔ ((scheme ≡ 1 → ⊥) × (scheme ≡ 2 → ⊥) × (scheme ≡ 3 → ⊥))
-  says-1 = Iff·trans (said-1 opens scheme key nonce header input room) (unnamed scheme)
+  says-1 = Iff·trans (said-1 key nonce header input room opens scheme) (unnamed scheme)
 
   -- 2: a known scheme, and a key of another length
   pub says-2 : (number ≡ 2) ↔ Under scheme (λ s. length key ≡ s .key → ⊥)
@@ -81,7 +81,7 @@ module _ (opens : Bool) (scheme : ℕ) (key nonce header input room : List ℕ) 
   -- 6: a known scheme, no check applies, and an open of a run that is not authentic
   pub says-6 : (number ≡ 6) ↔ Under scheme (λ s. (check s ≡ 0) × (opens ≡ true) × (authentic s ≡ false))
   says-6 =
-      said opens scheme key nonce header input room 6 refl _ λ s.
+      said key nonce header input room opens scheme 6 refl _ λ s.
       let forged = forged-is opens (authentic s) in
       let (to, from) = after-6 (check s) _ (check-plain s _ _ _ _ _ _ _ .not-6) in
       (λ e. let (c, h) = to e in let (o, a) = forged .0 h in (c, o, a), λ t. from (t .0, forged .1 (t .1, t .2)))
@@ -89,5 +89,5 @@ module _ (opens : Bool) (scheme : ℕ) (key nonce header input room : List ℕ) 
   -- 0: a known scheme, no check applies, and the run of an open is authentic
   pub says-0 : (number ≡ 0) ↔ Under scheme (λ s. (check s ≡ 0) × (opens ≡ true → authentic s ≡ true))
   says-0 =
-      said opens scheme key nonce header input room 0 refl _ λ s.
+      said key nonce header input room opens scheme 0 refl _ λ s.
       Iff·trans (after-0 (check s) _) (Iff·and Iff·rfl (not-forged opens (authentic s)))

@@ -101,6 +101,7 @@ module _ (s : Scheme) (key nonce header body : ℕ) (short : Bool) (more room : 
       Iff·trans (says 5 refl)
       (three-pass (Iff·and (within-passes (s .body) body) (Iff·and Iff·rfl (within-fails room (body + more)))))
 
+  -- behind the last of them, 0 is answered because it is 0 (`Says 0 []`)
   check-0 : (number ≡ 0) ↔ (Fitting s key nonce header × ((body ≤ s .body) × ((short ≡ false) × ((body + more ≤ room) × Says 0 []))))
   check-0 =
       Iff·trans (says 0 refl)
@@ -118,17 +119,12 @@ module _ (s : Scheme) (key nonce header body : ℕ) (short : Bool) (more room : 
 
 -- ---- what is told then
 
--- 0 is told only where the checks answered it
-pub was-passed : (k : ℕ) (t : Told) (room : List ℕ) → passed k t room .number ≡ 0 → k ≡ 0
-was-passed zero t room e = refl
-was-passed (suc k) t room e = absurd (omega arith)
-
--- and there it is
+-- where they answered 0, what comes behind them
 pub all-passed : (k : ℕ) (t : Told) (room : List ℕ) → k ≡ 0 → passed k t room ≡ t
 all-passed zero t room e = refl
 all-passed (suc k) t room e = absurd (omega arith)
 
--- another number is told
+-- another number, itself
 pub not-passed : (k : ℕ) (t : Told) (room : List ℕ) → (k ≡ 0 → ⊥) → passed k t room ≡ refused k room
 not-passed zero t room h = absurd (h refl)
 not-passed (suc k) t room h = refl

@@ -108,8 +108,8 @@ not-forged true a = (λ e _. not-false a e, λ h. ap not (h refl))
 
 -- ---- the call's number
 
-module _ (opens : Bool) (scheme : ℕ) (key nonce header input room : List ℕ) where
-  abbrev pub checkIn : (opens : Bool) → Scheme → ℕ
+module _ (key nonce header input room : List ℕ) where
+  abbrev checkIn : (opens : Bool) → Scheme → ℕ
   checkIn opens s = checked opens s (length key) (length nonce) (length header) (length input) (length room)
 
   abbrev pub numberIn : (opens : Bool) → Scheme → ℕ
@@ -126,21 +126,25 @@ module _ (opens : Bool) (scheme : ℕ) (key nonce header input room : List ℕ) 
       let o = opened s key nonce header input in
       passed-number (checkIn true s) _ room (not (o .authentic)) (judged-number (o .authentic) (length input - blockOf (s .cipher)) (o .body) room)
 
-  by-name : (opens : Bool) → answered opens scheme key nonce header input room .number ≡ under (schemeOf scheme) (call opens) room .number
+  by-name : (opens : Bool) (scheme : ℕ)
+      → answered opens scheme key nonce header input room .number ≡ under (schemeOf scheme) (call opens) room .number
   unfolding sealOf openOf
-  by-name false = refl
-  by-name true = refl
+  by-name false scheme = refl
+  by-name true scheme = refl
 
-  pub said : (k : ℕ) → eqb 1 k ≡ false → (Q : Scheme → Type 0) → ((s : Scheme) → (numberIn opens s ≡ k) ↔ Q s)
-      → (answered opens scheme key nonce header input room .number ≡ k) ↔ Under scheme Q
-  said k not-1 Q f =
-      let u = under-says (schemeOf scheme) (call opens) room k (eqb-false 1 k not-1) in
-      Iff·trans (λ e. u .0 (sym (by-name opens) ∙ e), λ t. by-name opens ∙ u .1 t)
-      (under-each scheme (λ s. call opens s .number ≡ k) Q λ s.
-      (λ e. f s .0 (sym (call-number opens s) ∙ e), λ q. call-number opens s ∙ f s .1 q))
+  module _ (opens : Bool) (scheme : ℕ) where
+    abbrev answer : ℕ
+    answer = answered opens scheme key nonce header input room .number
 
-  pub said-1 : (answered opens scheme key nonce header input room .number ≡ 1) ↔ (schemeOf scheme ≡ Unknown)
-  said-1 =
-      let u = under-1 (schemeOf scheme) (call opens) room λ s e.
-      check-never s _ _ _ _ _ _ _ 1 refl (after-check (checkIn opens s) _ 1 refl refl .0 (sym (call-number opens s) ∙ e)) in
-      (λ e. u .0 (sym (by-name opens) ∙ e), λ t. by-name opens ∙ u .1 t)
+    pub said : (k : ℕ) → eqb 1 k ≡ false → (Q : Scheme → Type 0) → ((s : Scheme) → (numberIn opens s ≡ k) ↔ Q s) → (answer ≡ k) ↔ Under scheme Q
+    said k not-1 Q f =
+        let u = under-says (schemeOf scheme) (call opens) room k (eqb-false 1 k not-1) in
+        Iff·trans (λ e. u .0 (sym (by-name opens scheme) ∙ e), λ t. by-name opens scheme ∙ u .1 t)
+        (under-each scheme (λ s. call opens s .number ≡ k) Q λ s.
+        (λ e. f s .0 (sym (call-number opens s) ∙ e), λ q. call-number opens s ∙ f s .1 q))
+
+    pub said-1 : (answer ≡ 1) ↔ (schemeOf scheme ≡ Unknown)
+    said-1 =
+        let u = under-1 (schemeOf scheme) (call opens) room λ s e.
+        check-never s _ _ _ _ _ _ _ 1 refl (after-check (checkIn opens s) _ 1 refl refl .0 (sym (call-number opens s) ∙ e)) in
+        (λ e. u .0 (sym (by-name opens scheme) ∙ e), λ t. by-name opens scheme ∙ u .1 t)

@@ -11,6 +11,7 @@ use Rattle.sealing.specs.declared.schemes.Scheme.{Scheme}
 use Rattle.sealing.specs.declared.schemes.Named.{Named}
 use Rattle.sealing.specs.declared.schemes.Named.the-variants.{Known, Unknown}
 use Rattle.sealing.specs.Schemes.{scheme1, scheme2, scheme3, schemeOf, Fits}
+use Rattle.sealing.specs.Numbers.{Under}
 use Rattle.sealing.specs.Calls.{under, sealUnder, openUnder, sealOf, openOf}
 use Rattle.cells.proofs.Choice.{either}
 
@@ -60,6 +61,10 @@ module _ (P : Scheme → Type 0) where
   all-so a b c number =
       either Named-so (eqb number 1) (Known scheme1) _ a
       (either Named-so (eqb number 2) (Known scheme2) _ b (either Named-so (eqb number 3) (Known scheme3) Unknown c tt))
+
+  -- of the one that it does name
+  pub of-named : (number : ℕ) (s : Scheme) → schemeOf number ≡ Known s → Under number P → P s
+  of-named number s known u = subst Named-so (sym (u .1) ∙ known) (u .2)
 
   pub each-named : P scheme1 → P scheme2 → P scheme3 → (number : ℕ) (s : Scheme) → schemeOf number ≡ Known s → P s
   each-named a b c number s e = subst Named-so e (all-so a b c number)

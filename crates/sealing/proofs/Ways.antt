@@ -71,18 +71,7 @@ module _ (P : Told → Type 0) where
 
 -- ---- what follows
 
--- 6 is told only where a scheme is named: an unknown one is 1
-pub forged-named : (scheme : ℕ) (key nonce header run room : List ℕ) → openOf scheme key nonce header run room .number ≡ 6
-    → (s : Scheme) × (schemeOf scheme ≡ Known s)
-unfolding openOf
-forged-named scheme key nonce header run room e = go (schemeOf scheme) refl e
-  where
-    go : (m : Named) → schemeOf scheme ≡ m → under m (λ s. openUnder s key nonce header run room) room .number ≡ 6
-        → (s : Scheme) × (schemeOf scheme ≡ Known s)
-    go (Known s) q h = (s, q)
-    go Unknown q h = absurd (omega arith)
-
--- and then a body's place holds zeros: no check answers 6
+-- where 6 is told, a body's place holds zeros: no check answers 6
 pub forged-under : (s : Scheme) (key nonce header run room : List ℕ) → openUnder s key nonce header run room .number ≡ 6
     → openUnder s key nonce header run room ≡ forged (length run - blockOf (s .cipher)) room
 forged-under s key nonce header run room =

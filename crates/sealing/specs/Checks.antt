@@ -35,7 +35,7 @@ checkOf s key nonce header body short more room = first (checks s key nonce head
 
 -- ---- of a call: `opens` is false for a seal, whose input is a body, and true for an open, whose input is a run
 
--- a run is a block longer than its body
+-- a run is a block longer than its body; one shorter than a block has none to judge under 8
 abbrev pub bodyIn : (opens : Bool) → Scheme → ℕ → ℕ
 bodyIn false s input = input
 bodyIn true s input = input - blockOf (s .cipher)
