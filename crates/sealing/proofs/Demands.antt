@@ -129,7 +129,7 @@ module _ (key nonce header body room : List ℕ) where
       → sealOf 2 key nonce header body room ≡ done (length body + 16) (sealRun 16 (paef 16 (skinny N128T256 key) nonce) header body) room
   seal-2 ok b r = seal-admitted 2 scheme2 key nonce header ok body room b r
 
-  pub seal-3 : Admitted 3 scheme3 key nonce header → length body ≤ 131056 → length body + 16 ≤ length room
+  pub seal-3 : Admitted 3 scheme3 key nonce header → length body ≤ 1048576 → length body + 16 ≤ length room
       → sealOf 3 key nonce header body room ≡ done (length body + 16) (sealRun 16 (saef 16 (skinny N128T256 key) nonce) header body) room
   seal-3 ok b r = seal-admitted 3 scheme3 key nonce header ok body room b r
 
@@ -142,7 +142,7 @@ module _ (key nonce header run room : List ℕ) where
       → openOf 2 key nonce header run room ≡ judged (openRun 16 (paef 16 (skinny N128T256 key) nonce) header run) (length run - 16) room
   open-2 ok l b r = open-admitted 2 scheme2 key nonce header ok run room l b r
 
-  pub open-3 : Admitted 3 scheme3 key nonce header → 16 ≤ length run → length run ≤ 131072 → length run ≤ length room + 16
+  pub open-3 : Admitted 3 scheme3 key nonce header → 16 ≤ length run → length run ≤ 1048592 → length run ≤ length room + 16
       → openOf 3 key nonce header run room ≡ judged (openRun 16 (saef 16 (skinny N128T256 key) nonce) header run) (length run - 16) room
   open-3 ok l b r = open-admitted 3 scheme3 key nonce header ok run room l b r
 

@@ -1,5 +1,6 @@
--- The boundary figures of document 01 (What a caller is told; 3 and 8 parted by C-11), one table: the lengths that go into a call, and the number that its
--- checks answer; 0 says that no check applies. Key and nonce have the scheme's lengths. Assumes nothing.
+-- The boundary figures of document 01 (What a caller is told; 3 and 8 parted by C-11, scheme 3's limit by C-12), one table: the lengths
+-- that go into a call, and the number that its checks answer; 0 says that no check applies. Key and nonce have the scheme's lengths. Assumes
+-- nothing.
 use Prim.Native.Nat.{ℕ}
 use mathlib.Core.Bool.{Bool, true, false}
 use mathlib.Core.List.{List, [], _∷_}
@@ -37,7 +38,7 @@ figures =
     ∷ opening 1 65529 65536 65528 3
     ∷ seals 1 65529 65529 65537 3
     ∷ opening 1 65529 65537 65529 3
-    -- schemes 2 and 3 take 131,056 and refuse 131,057
+    -- scheme 2 takes 131,056 and refuses 131,057
     ∷ seals 2 0 131056 131072 0
     ∷ seals 2 0 131057 131073 8
     ∷ seals 2 131056 0 16 0
@@ -47,15 +48,16 @@ figures =
     ∷ opening 2 131057 131072 131056 3
     ∷ seals 2 131057 131057 131073 3
     ∷ opening 2 131057 131073 131057 3
-    ∷ seals 3 0 131056 131072 0
-    ∷ seals 3 0 131057 131073 8
-    ∷ seals 3 131056 0 16 0
-    ∷ seals 3 131057 0 16 3
-    ∷ opening 3 131056 131072 131056 0
-    ∷ opening 3 131056 131073 131057 8
-    ∷ opening 3 131057 131072 131056 3
-    ∷ seals 3 131057 131057 131073 3
-    ∷ opening 3 131057 131073 131057 3
+    -- scheme 3 takes 1,048,576 and refuses 1,048,577
+    ∷ seals 3 0 1048576 1048592 0
+    ∷ seals 3 0 1048577 1048593 8
+    ∷ seals 3 1048576 0 16 0
+    ∷ seals 3 1048577 0 16 3
+    ∷ opening 3 1048576 1048592 1048576 0
+    ∷ opening 3 1048576 1048593 1048577 8
+    ∷ opening 3 1048577 1048592 1048576 3
+    ∷ seals 3 1048577 1048577 1048593 3
+    ∷ opening 3 1048577 1048593 1048577 3
     -- an open of 7 bytes under scheme 1 is 4; of 8 bytes it is judged as an empty body; likewise 15 and 16 under 2 and 3
     ∷ opening 1 0 7 0 4
     ∷ opening 1 0 8 0 0

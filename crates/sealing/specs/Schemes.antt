@@ -11,15 +11,16 @@ use Rattle.sealing.specs.declared.schemes.Scheme.{Scheme}
 use Rattle.sealing.specs.declared.schemes.Named.{Named}
 use Rattle.sealing.specs.declared.schemes.Named.the-variants.{Known, Unknown}
 
--- a header and a body have at most 8,191 blocks (01, What a caller is told, 3)
+-- PAEF numbers blocks in thirteen bits: a header and a body have at most 8,191 of them (01, What a caller is told, 3)
 abbrev pub scheme1 : Scheme
 scheme1 = record { cipher = N64T192; kind = Paef; key = 16; nonce = 6; header = 65528; body = 65528 }
 
 abbrev pub scheme2 : Scheme
 scheme2 = record { cipher = N128T256; kind = Paef; key = 16; nonce = 14; header = 131056; body = 131056 }
 
+-- SAEF numbers none: at most 1,048,576 bytes (02, C-12)
 abbrev pub scheme3 : Scheme
-scheme3 = record { cipher = N128T256; kind = Saef; key = 16; nonce = 15; header = 131056; body = 131056 }
+scheme3 = record { cipher = N128T256; kind = Saef; key = 16; nonce = 15; header = 1048576; body = 1048576 }
 
 -- the scheme that a number names
 unfoldable pub schemeOf : ℕ → Named

@@ -49,8 +49,8 @@ pub fn scheme_of(number: u32) -> Named
             kind: Kind::Saef,
             key: 16,
             nonce: 15,
-            header: 131056,
-            body: 131056,
+            header: 1048576,
+            body: 1048576,
         });
     }
     Named::Unknown
