@@ -11,7 +11,7 @@ ORDER = """\nThe checks run in the order 9, 1, 2, 7, 3, 8, 4, 5, 6; the first th
 and 0 is the last. So when one is put right, a later one may answer.
 `tools/desk explain 6` says more of number 6."""
 COUNT = "Count the bytes, two hex digits each; they are not to be cut or padded to fit."
-LIMIT = "8,191 blocks at most: 65,528 bytes under scheme 1, 131,056 under schemes 2 and 3."
+LIMIT = "65,528 bytes at most under scheme 1, 131,056 under scheme 2 (both 8,191 blocks), 1,048,576 under scheme 3."
 FROM_C = "Only a call from C gets this number: a job ends at 16,384 bytes, and a longer one is 9."
 UNCHANGED = "No output, length 0. The room of a call from C is unchanged, every byte of it."
 
@@ -77,7 +77,7 @@ NUMBERS = {
     8: Number(
         "body too long",
         f"A body has {LIMIT} The body of a sealed run is the run less one block. The header's length is right.",
-        f"Part the record into several, each with a nonce of its own. {FROM_C}",
+        f"Part the record into several, each with a nonce of its own, or see whether scheme 3 takes it. {FROM_C}",
         UNCHANGED,
     ),
     9: Number(

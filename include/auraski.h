@@ -23,14 +23,14 @@
 #include <stdint.h>
 
 /* The same as `pkg-config --modversion auraski` says. */
-#define AURASKI_VERSION "0.3.0"
+#define AURASKI_VERSION "0.4.0"
 #define AURASKI_VERSION_MAJOR 0
-#define AURASKI_VERSION_MINOR 3
+#define AURASKI_VERSION_MINOR 4
 #define AURASKI_VERSION_PATCH 0
 
-/* A call takes at most so many bytes of stack, its arguments included, whatever the record's length. This is measured, not proved, with the
- * names of the C library bound before the call (-static or -Wl,-z,now): where the loader binds them at the first call, its own stack comes
- * on top. */
+/* A call takes at most so many bytes of stack, its arguments included, whatever the record's length: an empty one takes as much as one with
+ * a header and a body of 1,048,576 bytes. This is measured, not proved, with the names of the C library bound before the call (-static or
+ * -Wl,-z,now): where the loader binds them at the first call, its own stack comes on top. */
 #define AURASKI_STACK_BYTES 3072u
 
 /* GCC and clang warn of an answer that is not looked at, and of a null pointer where they see that it is one; where they don't, they go by
@@ -55,7 +55,7 @@ extern "C" {
  *                            block   nonce   header at most   body at most   so a sealed run has
  *   1  PAEF over 64-192          8       6           65,528         65,528   8 to 65,536 bytes
  *   2  PAEF over 128-256        16      14          131,056        131,056   16 to 131,072
- *   3  SAEF over 128-256        16      15          131,056        131,056   16 to 131,072
+ *   3  SAEF over 128-256        16      15        1,048,576      1,048,576   16 to 1,048,592
  *
  * Header and body may be empty. */
 #define AURASKI_PAEF_64_192 1u
@@ -76,7 +76,7 @@ extern "C" {
 /* The longest header, and the longest body. */
 #define AURASKI_PAEF_64_192_LIMIT 65528u
 #define AURASKI_PAEF_128_256_LIMIT 131056u
-#define AURASKI_SAEF_128_256_LIMIT 131056u
+#define AURASKI_SAEF_128_256_LIMIT 1048576u
 
 /* Answers, in the order of the checks: the first that applies answers, and if none does, it is 0. So a number also says that all before
  * it was right. */

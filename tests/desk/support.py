@@ -48,6 +48,12 @@ def replaced(words, option, value):
     return words[:at] + ([] if value is None else [option, value]) + words[at + 2:]
 
 
+def between(name, start, end):
+    """From a file of the project, what stands behind the first start and before the next end."""
+    with open(os.path.join(ROOT, name), encoding="utf-8") as file:
+        return file.read().split(start, 1)[1].split(end, 1)[0]
+
+
 def encoded(data):
     return data.encode() if isinstance(data, str) else data
 

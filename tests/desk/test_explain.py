@@ -40,9 +40,10 @@ class Explain(support.DeskTest):
     def test_header_and_body(self):
         """Both have the same limit, and no job is long enough for either number."""
         small, large = (f"{8191 * SCHEMES[scheme].block:,}" for scheme in (1, 2))
+        limit = f"{small} bytes at most under scheme 1, {large} under scheme 2 (both 8,191 blocks), {2**20:,} under scheme 3."
         for number, name in ((3, "header"), (8, "body")):
             shown = self.explained(number)
-            self.assertIn(f"A {name} has 8,191 blocks at most: {small} bytes under scheme 1, {large} under schemes 2 and 3.", shown)
+            self.assertIn(f"A {name} has {limit}", shown)
             self.assertIn("Only a call from C gets this number: a job ends at 16,384 bytes", shown)
 
     def test_what_may_follow(self):

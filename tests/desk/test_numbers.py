@@ -1,18 +1,12 @@
 """The answer numbers and their order: the definition, the header, the promises and the desk say the same."""
-import os
 import re
 import unittest
 
-import support
+from support import between
 
 import explain
 
 JOB, SCHEME, FORGED, DONE = 9, 1, 6, 0  # around the checks of lengths; 9 is sealjob's alone
-
-
-def between(name, start, end):
-    with open(os.path.join(support.ROOT, name), encoding="utf-8") as file:
-        return file.read().split(start, 1)[1].split(end, 1)[0]
 
 
 def between_words(text, start, end):

@@ -1,5 +1,5 @@
 /* The stack that each entry point takes, on records of several lengths and on calls that are refused. Fails if one takes more than the bound,
- * or if a long record takes another stack than one of a few blocks. */
+ * or if the longest record takes another stack than an empty one. */
 #include "auraski.h"
 #include "ground.h"
 
@@ -10,7 +10,8 @@
 /* The stack that a caller has to have, arguments included. */
 enum { BOUND = AURASKI_STACK_BYTES };
 
-enum { MOST = 131056, BLOCK = 16 };
+/* Of all schemes. */
+enum { MOST = AURASKI_SAEF_128_256_LIMIT, BLOCK = AURASKI_SAEF_128_256_BLOCK };
 
 static uint8_t key[16], nonce[16], header[MOST + 1], body[MOST + 1], run[MOST + 1 + BLOCK], room[MOST + 1 + BLOCK];
 static size_t length;
@@ -137,9 +138,11 @@ static size_t take_scheme(const Scheme *scheme)
         take_record(scheme, lengths[i], &sealing[i], &opening[i]);
         most = greater(most, greater(sealing[i], opening[i]));
     }
-    if (sealing[1] != sealing[2] || opening[1] != opening[2]) {
-        printf("stack: scheme %u: the depth is not the same for a short and a long record\n", (unsigned)scheme->scheme);
-        failures++;
+    for (int i = 1; i < 3; i++) {
+        if (sealing[i] != sealing[0] || opening[i] != opening[0]) {
+            printf("stack: scheme %u: not the same for a record of %zu bytes as for an empty one\n", (unsigned)scheme->scheme, lengths[i]);
+            failures++;
+        }
     }
     print_row("auraski_seal  ", scheme->scheme, sealing, take_refused_seals(scheme));
     print_row("auraski_open  ", scheme->scheme, opening, take_refused_opens(scheme));

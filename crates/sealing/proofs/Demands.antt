@@ -146,12 +146,15 @@ module _ (key nonce header run room : List ℕ) where
       → openOf 3 key nonce header run room ≡ judged (openRun 16 (saef 16 (skinny N128T256 key) nonce) header run) (length run - 16) room
   open-3 ok l b r = open-admitted 3 scheme3 key nonce header ok run room l b r
 
--- thirteen bits of number are enough: no two blocks of one record, header and body together, have the same tweak under PAEF
+-- thirteen bits of number are enough for a PAEF scheme's own limits: no two blocks of one record, header and body together, have the same
+-- tweak
 module _ (key nonce header body : List ℕ) where
-  pub tweaks-1 : length header ≤ 65528 → length body ≤ 65528 → Distinct (paefTweaks 8 (skinny N64T192 key) nonce header body)
+  pub tweaks-1 : length header ≤ scheme1 .header → length body ≤ scheme1 .body
+      → Distinct (paefTweaks 8 (skinny N64T192 key) nonce header body)
   tweaks-1 = paef-distinct 8 (skinny N64T192 key) nonce (omega arith) header body
 
-  pub tweaks-2 : length header ≤ 131056 → length body ≤ 131056 → Distinct (paefTweaks 16 (skinny N128T256 key) nonce header body)
+  pub tweaks-2 : length header ≤ scheme2 .header → length body ≤ scheme2 .body
+      → Distinct (paefTweaks 16 (skinny N128T256 key) nonce header body)
   tweaks-2 = paef-distinct 16 (skinny N128T256 key) nonce (omega arith) header body
 
 -- a block can be taken back from either half h, and the other half comes out again

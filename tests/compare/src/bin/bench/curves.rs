@@ -27,7 +27,7 @@ pub fn line_of(number: u32, colour: &str) -> String {
     format!("stroke=\"{}\" {}", colour, LOOKS[number as usize - 1])
 }
 
-/// Nanoseconds per byte by the body's length, of one scheme and side.
+/// What a byte takes by the body's length, of one scheme and side.
 pub struct Curve {
     pub number: u32,
     pub side: Side,
@@ -55,7 +55,7 @@ impl Curve {
     fn new(figures: &[&Figure], number: u32, side: Side) -> Curve {
         let of_scheme = figures.iter().filter(|figure| figure.kind.number == number);
         let point = |figure: &&Figure| {
-            let per_byte = figure.times.of(side) / figure.kind.body as f64;
+            let per_byte = figure.costs.of(side) / figure.kind.body as f64;
             (figure.kind.body, per_byte)
         };
         Curve {
@@ -65,16 +65,10 @@ impl Curve {
         }
     }
 
-    /// What the curve says of one of its points.
-    pub fn words(&self, point: (usize, f64)) -> String {
-        let side = side_name(self.side);
-        format!(
-            "{}, {}, {} bytes: {:.2} ns per byte",
-            name_of(self.number),
-            side,
-            point.0,
-            point.1
-        )
+    /// What the curve says of one of its points; `per_byte` is what is counted.
+    pub fn words(&self, (length, cost): (usize, f64), per_byte: &str) -> String {
+        let (scheme, side) = (name_of(self.number), side_name(self.side));
+        format!("{scheme}, {side}, {length} bytes: {cost:.2} {per_byte}")
     }
 }
 

@@ -1,20 +1,25 @@
-//! How long block calls, sealing and opening take, in the library, in the rival
+//! What block calls, sealing and opening take, in the library, in the rival
 //! and in the second program. Nothing is timed unless they answer alike.
 //!
 //!   bench                                  both tables
 //!   bench agree                            only that all sides answer alike
-//!   bench plot FILE MACHINE                both tables, and the plot into FILE;
-//!                                          MACHINE says in it what this runs on
+//!   bench plot FILE MADE                   both tables, and the plot into FILE;
+//!                                          MADE says in it how it was measured
 //!   bench blocks                           the table of the block calls
 //!   bench sealing                          the table of sealing and opening
 //!   bench count SIDE DIRECTION CIPHER FROM WANT N
 //!                                          N block calls of one kind
 //!   bench count-seal SIDE DIRECTION SCHEME BODY N
 //!                                          N seals or opens of one kind
+//!   bench kinds                            DIRECTION SCHEME BODY of every kind of
+//!                                          seal and open, and how many are a batch
+//!   bench draw FILE MADE                   the plot of counts: from the input, lines
+//!                                          DIRECTION SCHEME BODY OURS RIVAL SECOND
 //!
 //! SIDE is ours, rival or second. DIRECTION is fork or unfork of block calls, where
 //! FROM does not count for fork, and else seal or open; BODY is the body's
-//! length. The last two forms are for counting instructions and print nothing.
+//! length. The last four forms are for counting instructions; those that make the
+//! calls print nothing.
 
 mod agree;
 mod block_calls;
@@ -28,27 +33,49 @@ mod side;
 mod svg;
 mod tables;
 
+use sealing_calls::Figure;
 use std::process::exit;
 
-const USAGE: &str = "bench [agree|blocks|sealing]
-bench plot FILE MACHINE
+const USAGE: &str = "bench [agree|blocks|sealing|kinds]
+bench plot FILE MADE
+bench draw FILE MADE
 bench count ours|rival|second fork|unfork CIPHER FROM WANT N
 bench count-seal ours|rival|second seal|open SCHEME BODY N";
 
 /// Both tables, once the sides agree; gives the figures of sealing and opening.
-fn print_tables() -> Vec<sealing_calls::Figure> {
+fn print_tables() -> Vec<Figure> {
     agree::check();
     tables::print_block_calls();
     println!();
     tables::print_sealing()
 }
 
-/// Both tables, and the plot of the same figures.
-fn draw(file: &str, machine: &str) {
-    let picture = plot::plot(&print_tables(), machine);
-    if let Err(error) = std::fs::write(file, picture) {
-        eprintln!("bench: {}: {}", file, error);
-        exit(1);
+fn fail(what: &str, why: impl std::fmt::Display) -> ! {
+    eprintln!("bench: {what}: {why}");
+    exit(1);
+}
+
+fn draw(file: &str, measure: &plot::Measure, figures: &[Figure], made: &str) {
+    let picture = plot::plot(measure, figures, made);
+    std::fs::write(file, picture).unwrap_or_else(|error| fail(file, error));
+}
+
+/// What was counted of one kind, from its line.
+fn figure_of(line: std::io::Result<String>) -> Figure {
+    let line = line.unwrap_or_else(|error| fail("the input", error));
+    let words: Vec<&str> = line.split(' ').collect();
+    sealing_calls::parse_figure(&words).unwrap_or_else(|| fail(&line, "this line is no figure"))
+}
+
+/// The figures that the input has.
+fn read_figures() -> Vec<Figure> {
+    std::io::stdin().lines().map(figure_of).collect()
+}
+
+fn print_kinds() {
+    for kind in sealing_calls::kinds() {
+        let direction = kind.direction.name();
+        println!("{direction} {} {} {}", kind.number, kind.body, kind.calls());
     }
 }
 
@@ -71,7 +98,9 @@ fn count_seals(words: &[&str]) -> Option<()> {
 fn obey(words: &[&str]) -> Option<()> {
     match words {
         [] => drop(print_tables()),
-        ["plot", file, machine] => draw(file, machine),
+        ["plot", file, made] => draw(file, &plot::TIME, &print_tables(), made),
+        ["draw", file, made] => draw(file, &plot::INSTRUCTIONS, &read_figures(), made),
+        ["kinds"] => print_kinds(),
         ["agree"] => println!("{}", agree::check()),
         ["blocks"] => tables::print_block_calls(),
         ["sealing"] => drop(tables::print_sealing()),

@@ -1,7 +1,7 @@
 //! One panel of the plot: its axes, its curves and where they end.
 
 use crate::curves::{colour_of, line_of, Curve};
-use crate::scale::{length_name, time_name, Scale};
+use crate::scale::{cost_name, length_name, Scale};
 use crate::svg::Picture;
 
 const GRID: &str = "stroke=\"#e5e7eb\" stroke-width=\"1\"";
@@ -12,17 +12,17 @@ const MARK: &str = "font-size=\"12\" fill=\"#374151\"";
 const APART: f64 = 14.0;
 
 /// A round number, without what a sum of tenths may be off by.
-fn mark_name(time: f64) -> String {
-    let name = format!("{:.3}", time);
+fn mark_name(cost: f64) -> String {
+    let name = format!("{:.3}", cost);
     name.trim_end_matches('0').trim_end_matches('.').to_string()
 }
 
-fn draw_times(picture: &mut Picture, scale: &Scale) {
-    for time in scale.marked_times() {
-        let y = scale.y(time);
+fn draw_costs(picture: &mut Picture, scale: &Scale) {
+    for cost in scale.marked_costs() {
+        let y = scale.y(cost);
         picture.line((scale.left, y), (scale.right, y), GRID);
         let looks = format!("{} text-anchor=\"end\"", MARK);
-        picture.text((scale.left - 8.0, y + 4.0), &looks, &mark_name(time));
+        picture.text((scale.left - 8.0, y + 4.0), &looks, &mark_name(cost));
     }
 }
 
@@ -45,7 +45,7 @@ fn draw_lengths(picture: &mut Picture, scale: &Scale) {
 }
 
 pub fn draw_axes(picture: &mut Picture, scale: &Scale) {
-    draw_times(picture, scale);
+    draw_costs(picture, scale);
     draw_lengths(picture, scale);
     let corner = (scale.left, scale.bottom);
     picture.line((scale.left, scale.top), corner, AXIS);
@@ -55,17 +55,17 @@ pub fn draw_axes(picture: &mut Picture, scale: &Scale) {
     picture.text((middle, scale.bottom + 42.0), looks, "body, bytes");
 }
 
-pub fn draw_curve(picture: &mut Picture, scale: &Scale, curve: &Curve) {
+pub fn draw_curve(picture: &mut Picture, scale: &Scale, curve: &Curve, per_byte: &str) {
     let colour = colour_of(curve.side);
     let places: Vec<_> = curve
         .points
         .iter()
-        .map(|(length, time)| scale.place(*length, *time))
+        .map(|(length, cost)| scale.place(*length, *cost))
         .collect();
     picture.curve(&places, &line_of(curve.number, colour));
     for (place, point) in places.into_iter().zip(&curve.points) {
         let looks = format!("r=\"2.6\" fill=\"{}\"", colour);
-        picture.dot(place, &looks, &curve.words(*point));
+        picture.dot(place, &looks, &curve.words(*point, per_byte));
     }
 }
 
@@ -86,7 +86,7 @@ fn apart(ends: &[f64], bottom: f64) -> Vec<f64> {
     places
 }
 
-/// The time at each curve's end, in figures, kept apart from one another.
+/// The cost at each curve's end, in figures, kept apart from one another.
 pub fn draw_ends(picture: &mut Picture, scale: &Scale, curves: &[Curve]) {
     let mut ends: Vec<(f64, &str)> = curves
         .iter()
@@ -94,8 +94,8 @@ pub fn draw_ends(picture: &mut Picture, scale: &Scale, curves: &[Curve]) {
         .collect();
     ends.sort_by(|one, other| other.0.total_cmp(&one.0));
     let beside: Vec<f64> = ends.iter().map(|end| scale.y(end.0) + 4.0).collect();
-    for ((time, colour), y) in ends.into_iter().zip(apart(&beside, scale.bottom)) {
+    for ((cost, colour), y) in ends.into_iter().zip(apart(&beside, scale.bottom)) {
         let looks = format!("font-size=\"12\" font-weight=\"bold\" fill=\"{}\"", colour);
-        picture.text((scale.right + 9.0, y), &looks, &time_name(time));
+        picture.text((scale.right + 9.0, y), &looks, &cost_name(cost));
     }
 }

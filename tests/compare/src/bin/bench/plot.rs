@@ -1,5 +1,5 @@
-//! The plot of nanoseconds per byte by the body's length: a panel for sealing
-//! and one for opening.
+//! The plot of nanoseconds or instructions per byte by the body's length: a
+//! panel for sealing and one for opening.
 
 use crate::curves::{colour_of, curves_of, line_of, name_of, of_direction, side_name};
 use crate::panel::{draw_axes, draw_curve, draw_ends};
@@ -9,7 +9,22 @@ use crate::side::Side;
 use crate::svg::{Picture, Place};
 use compare::records::Direction;
 
-const NAME: &str = "Auraski: time to seal and to open, per byte of body";
+/// What a plot shows.
+pub struct Measure {
+    title: &'static str,
+    per_byte: &'static str,
+}
+
+pub const TIME: Measure = Measure {
+    title: "Auraski: time to seal and to open, per byte of body",
+    per_byte: "nanoseconds per byte",
+};
+
+pub const INSTRUCTIONS: Measure = Measure {
+    title: "Auraski: instructions to seal and to open, per byte of body",
+    per_byte: "instructions per byte",
+};
+
 const WIDTH: f64 = 960.0;
 const HEIGHT: f64 = 548.0;
 /// Where the panels begin from the left, and their other measures.
@@ -28,8 +43,8 @@ fn scale_for(figures: &[Figure], left: f64) -> Scale {
     let with_body = figures.iter().filter(|figure| figure.kind.body > 0);
     let longest = figures.iter().map(|figure| figure.kind.body).max();
     let per_byte = |figure: &Figure| {
-        let times = Side::ALL.map(|side| figure.times.of(side));
-        times.into_iter().fold(0.0, f64::max) / figure.kind.body as f64
+        let costs = Side::ALL.map(|side| figure.costs.of(side));
+        costs.into_iter().fold(0.0, f64::max) / figure.kind.body as f64
     };
     Scale {
         left,
@@ -43,7 +58,7 @@ fn scale_for(figures: &[Figure], left: f64) -> Scale {
 
 /// Between which numbers a side's ratio to ours lies.
 fn range_of(figures: &[&Figure], side: Side) -> String {
-    let ratios = figures.iter().map(|figure| figure.times.ratio(side));
+    let ratios = figures.iter().map(|figure| figure.costs.ratio(side));
     let (least, most) = ratios.fold((f64::MAX, 0.0), |(least, most), ratio| {
         (ratio.min(least), ratio.max(most))
     });
@@ -62,27 +77,33 @@ fn draw_title(picture: &mut Picture, figures: &[&Figure], direction: Direction, 
     picture.text((left + 60.0, PANEL_TOP - 16.0), WORDS, &words);
 }
 
-fn draw_panel(picture: &mut Picture, all: &[Figure], direction: Direction, left: f64) {
+fn draw_panel(
+    picture: &mut Picture,
+    measure: &Measure,
+    all: &[Figure],
+    direction: Direction,
+    left: f64,
+) {
     let figures = of_direction(all, direction);
     let scale = scale_for(all, left);
     draw_title(picture, &figures, direction, left);
     draw_axes(picture, &scale);
     let curves = curves_of(&figures);
     for curve in &curves {
-        draw_curve(picture, &scale, curve);
+        draw_curve(picture, &scale, curve, measure.per_byte);
     }
     draw_ends(picture, &scale, &curves);
 }
 
-/// The title, what stands under it, and the name of the axis of times.
-fn draw_words(picture: &mut Picture, machine: &str) {
-    picture.text((24.0, 34.0), TITLE, NAME);
+/// The title, what stands under it, and the name of the upright axis.
+fn draw_words(picture: &mut Picture, measure: &Measure, machine: &str) {
+    picture.text((24.0, 34.0), TITLE, measure.title);
     let note = format!("header of {} bytes; {}", HEADER.len(), machine);
     picture.text((24.0, 56.0), NOTE, &note);
     let (x, y) = (24.0, (PANEL_TOP + PANEL_BOTTOM) / 2.0);
     let turn = format!("transform=\"rotate(-90 {} {})\"", x, y);
     let looks = format!("{} text-anchor=\"middle\" {}", WORDS, turn);
-    picture.text((x, y), &looks, "nanoseconds per byte");
+    picture.text((x, y), &looks, measure.per_byte);
 }
 
 /// A short line, and behind it what lines of its look show.
@@ -105,12 +126,12 @@ fn draw_legend(picture: &mut Picture) {
 }
 
 /// The plot as SVG; `machine` says what it was measured on.
-pub fn plot(figures: &[Figure], machine: &str) -> String {
+pub fn plot(measure: &Measure, figures: &[Figure], machine: &str) -> String {
     let mut picture = Picture::new(WIDTH, HEIGHT);
-    draw_words(&mut picture, machine);
+    draw_words(&mut picture, measure, machine);
     draw_legend(&mut picture);
     for (direction, left) in Direction::BOTH.into_iter().zip(LEFTS) {
-        draw_panel(&mut picture, figures, direction, left);
+        draw_panel(&mut picture, measure, figures, direction, left);
     }
-    picture.finish(NAME)
+    picture.finish(measure.title)
 }

@@ -1,9 +1,9 @@
-//! Where a length and a time stand in a panel of the plot, and which of them
+//! Where a length and a cost stand in a panel of the plot, and which of them
 //! are marked beside it.
 
 use crate::svg::Place;
 
-/// Lengths stand from left to right by their logarithm, times from bottom to
+/// Lengths stand from left to right by their logarithm, costs from bottom to
 /// top, beginning at 0.
 pub struct Scale {
     pub left: f64,
@@ -12,7 +12,7 @@ pub struct Scale {
     pub bottom: f64,
     /// From the first to the last length.
     pub lengths: (usize, usize),
-    /// The time at the top.
+    /// The cost at the top.
     pub most: f64,
 }
 
@@ -23,12 +23,12 @@ impl Scale {
         self.left + part * (self.right - self.left)
     }
 
-    pub fn y(&self, time: f64) -> f64 {
-        self.bottom - time / self.most * (self.bottom - self.top)
+    pub fn y(&self, cost: f64) -> f64 {
+        self.bottom - cost / self.most * (self.bottom - self.top)
     }
 
-    pub fn place(&self, length: usize, time: f64) -> Place {
-        (self.x(length), self.y(time))
+    pub fn place(&self, length: usize, cost: f64) -> Place {
+        (self.x(length), self.y(cost))
     }
 
     /// Lengths to mark: the first and its doubles.
@@ -38,8 +38,8 @@ impl Scale {
         doubles.take_while(|length| *length <= last).collect()
     }
 
-    /// Times to mark, from 0 to the top.
-    pub fn marked_times(&self) -> Vec<f64> {
+    /// Costs to mark, from 0 to the top.
+    pub fn marked_costs(&self) -> Vec<f64> {
         let step = step_for(self.most);
         let count = (self.most / step).round() as usize;
         (0..=count).map(|place| place as f64 * step).collect()
@@ -50,7 +50,7 @@ fn ratio(length: usize, first: usize) -> f64 {
     length as f64 / first as f64
 }
 
-/// A round step that fits at most six times into the time.
+/// A round step that fits at most six times into the cost.
 fn step_for(most: f64) -> f64 {
     let power = 10f64.powf((most / 6.0).log10().floor());
     let steps = [1.0, 2.0, 5.0, 10.0].map(|times| times * power);
@@ -59,27 +59,27 @@ fn step_for(most: f64) -> f64 {
     steps.into_iter().find(enough).unwrap_or(steps[3])
 }
 
-/// The time at the top of a panel, a whole number of steps.
-pub fn top_for(longest: f64) -> f64 {
-    let step = step_for(longest);
-    (longest / step).ceil() * step
+/// The cost at the top of a panel, a whole number of steps.
+pub fn top_for(greatest: f64) -> f64 {
+    let step = step_for(greatest);
+    (greatest / step).ceil() * step
 }
 
-/// 512, 1 Ki, 2 Ki..
+/// 512, 1 Ki, 2 Ki.. 1 Mi
 pub fn length_name(length: usize) -> String {
-    if length < 1024 {
-        length.to_string()
-    } else {
-        format!("{} Ki", length / 1024)
+    match length {
+        length if length < 1 << 10 => length.to_string(),
+        length if length < 1 << 20 => format!("{} Ki", length >> 10),
+        _ => format!("{} Mi", length >> 20),
     }
 }
 
 /// Three digits that count, or all before the point.
-pub fn time_name(time: f64) -> String {
-    let digits = match time {
-        time if time < 10.0 => 2,
-        time if time < 100.0 => 1,
+pub fn cost_name(cost: f64) -> String {
+    let digits = match cost {
+        cost if cost < 10.0 => 2,
+        cost if cost < 100.0 => 1,
         _ => 0,
     };
-    format!("{:.*}", digits, time)
+    format!("{:.*}", digits, cost)
 }

@@ -1,7 +1,7 @@
-//! How long sealing and opening take, under one header.
+//! What sealing and opening take, under one header.
 
 use crate::rival;
-use crate::side::{over_passes, quickest, Side, Times};
+use crate::side::{over_passes, quickest, Costs, Side, Times};
 use compare::auraski::{self, opaque};
 use compare::records::{Direction, Sealing};
 use compare::schemes::{Scheme, SCHEMES};
@@ -13,6 +13,9 @@ pub const HEADER: [u8; 16] = *b"header of a body";
 
 /// The shortest body that is not empty.
 pub const SHORTEST: usize = 16;
+
+/// From here on every fourfold is a body too.
+const FOURFOLD: usize = 64;
 
 /// One kind of call.
 #[derive(Clone, Copy, Debug)]
@@ -38,7 +41,7 @@ impl Kind {
 /// What was measured of one kind.
 pub struct Figure {
     pub kind: Kind,
-    pub times: Times,
+    pub costs: Costs,
 }
 
 pub fn call_of(side: Side, direction: Direction) -> Sealing {
@@ -112,26 +115,25 @@ fn measure(kind: Kind) -> Times {
     quickest(kind.calls(), |side| work.run(side, kind.calls()))
 }
 
-/// Of every kind of call.
-pub fn figures() -> Vec<Figure> {
+/// Times every kind of call.
+pub fn timed() -> Vec<(Kind, Times)> {
     let kinds = kinds();
     let all = over_passes(&kinds, measure);
-    let together = kinds.into_iter().zip(all);
-    together
-        .map(|(kind, times)| Figure { kind, times })
-        .collect()
+    kinds.into_iter().zip(all).collect()
 }
 
-/// No body, the shortest, its doubles, and the longest that the scheme takes.
+/// No body, one of sixteen bytes and of two times that, the fourfolds, and the
+/// longest that the scheme takes.
 fn bodies_of(scheme: &Scheme) -> Vec<usize> {
     let most = scheme.most_bytes();
-    let doubles = (0..).map(|times| SHORTEST << times);
-    let shorter = doubles.take_while(|body| *body < most);
-    once(0).chain(shorter).chain(once(most)).collect()
+    let fourfolds = (0..).map(|times| FOURFOLD << (2 * times));
+    let shorter = fourfolds.take_while(|body| *body < most);
+    let first = [0, SHORTEST, 2 * SHORTEST].into_iter();
+    first.chain(shorter).chain(once(most)).collect()
 }
 
 /// Every kind of call.
-fn kinds() -> Vec<Kind> {
+pub fn kinds() -> Vec<Kind> {
     let mut kinds = Vec::new();
     for (number, scheme) in (1..).zip(&SCHEMES) {
         for direction in Direction::BOTH {
@@ -146,25 +148,39 @@ fn kinds() -> Vec<Kind> {
     kinds
 }
 
-/// A kind of call, its body cut to the scheme's limit.
-fn kind_of(direction: Direction, number: u32, body: usize) -> Option<Kind> {
+/// DIRECTION SCHEME BODY, a body that the scheme takes.
+fn parse_kind(words: &[&str]) -> Option<Kind> {
+    let [direction, number, body]: [&str; 3] = words.try_into().ok()?;
+    let (number, body) = (number.parse().ok()?, body.parse().ok()?);
     let scheme = Scheme::find(number)?;
-    Some(Kind {
-        direction,
+    let kind = Kind {
+        direction: Direction::find(direction)?,
         number,
         scheme,
-        body: body.min(scheme.most_bytes()),
-    })
+        body,
+    };
+    (body <= scheme.most_bytes()).then(|| kind)
 }
 
 /// SIDE DIRECTION SCHEME BODY N.
 pub fn parse_count(words: &[&str]) -> Option<(Side, Kind, u32)> {
-    let (side, direction, numbers) = match words {
-        [side, direction, numbers @ ..] if numbers.len() == 3 => (*side, *direction, numbers),
+    match words {
+        [side, kind @ .., count] => {
+            Some((Side::find(side)?, parse_kind(kind)?, count.parse().ok()?))
+        }
+        _ => None,
+    }
+}
+
+/// DIRECTION SCHEME BODY OURS RIVAL SECOND: what was counted of one kind.
+pub fn parse_figure(words: &[&str]) -> Option<Figure> {
+    let (kind, costs) = match words {
+        [kind @ .., ours, rival, second] => (parse_kind(kind)?, [ours, rival, second]),
         _ => return None,
     };
-    let number = |place: usize| numbers[place].parse::<u32>().ok();
-    let direction = Direction::find(direction)?;
-    let kind = kind_of(direction, number(0)?, number(1)? as usize)?;
-    Some((Side::find(side)?, kind, number(2)?))
+    let [ours, rival, second] = costs.map(|cost| cost.parse().ok());
+    Some(Figure {
+        kind,
+        costs: Costs::new([ours?, rival?, second?]),
+    })
 }

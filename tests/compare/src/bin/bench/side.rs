@@ -37,35 +37,52 @@ impl Side {
     }
 }
 
+/// What a call takes on each side, in nanoseconds or in instructions.
+#[derive(Clone, Copy)]
+pub struct Costs([f64; 3]);
+
+impl Costs {
+    /// In the order of all sides.
+    pub fn new(costs: [f64; 3]) -> Costs {
+        Costs(costs)
+    }
+
+    pub fn of(&self, side: Side) -> f64 {
+        self.0[side as usize]
+    }
+
+    /// Above 1 where ours takes less.
+    pub fn ratio(&self, side: Side) -> f64 {
+        self.of(side) / self.of(Side::Ours)
+    }
+
+    fn lower(&mut self, side: Side, found: f64) {
+        let least = &mut self.0[side as usize];
+        *least = least.min(found);
+    }
+}
+
 /// Nanoseconds per call in the quickest batch of each side, and how many
 /// batches of each side there were.
 #[derive(Clone, Copy)]
 pub struct Times {
-    quickest: [f64; 3],
+    pub quickest: Costs,
     pub batches: usize,
 }
 
 impl Times {
-    pub fn of(&self, side: Side) -> f64 {
-        self.quickest[side as usize]
-    }
-
     /// With what another pass found.
     fn and(mut self, other: &Times) -> Times {
-        for (least, found) in self.quickest.iter_mut().zip(other.quickest) {
-            *least = least.min(found);
+        for side in Side::ALL {
+            self.quickest.lower(side, other.quickest.of(side));
         }
         self.batches += other.batches;
         self
     }
-
-    /// Above 1 where ours is quicker.
-    pub fn ratio(&self, side: Side) -> f64 {
-        self.of(side) / self.of(Side::Ours)
-    }
 }
 
-/// Nanoseconds per call in one batch; `run` gives the number of refusals.
+/// Nanoseconds per call in one batch; `run` gives the sum of the answers'
+/// numbers.
 fn time(calls: u32, run: impl FnOnce() -> u32) -> f64 {
     let start = Instant::now();
     let refused = run();
@@ -77,15 +94,13 @@ fn time(calls: u32, run: impl FnOnce() -> u32) -> f64 {
 /// Times batches of so many calls, the sides taking turns.
 pub fn quickest(calls: u32, mut run: impl FnMut(Side) -> u32) -> Times {
     let mut times = Times {
-        quickest: [f64::MAX; 3],
+        quickest: Costs::new([f64::MAX; 3]),
         batches: 0,
     };
     let start = Instant::now();
     while times.batches < MOST_BATCHES && start.elapsed() < ENOUGH {
         for side in Side::ALL {
-            let spent = time(calls, || run(side));
-            let least = &mut times.quickest[side as usize];
-            *least = least.min(spent);
+            times.quickest.lower(side, time(calls, || run(side)));
         }
         times.batches += 1;
     }

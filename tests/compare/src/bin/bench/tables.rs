@@ -1,8 +1,8 @@
 //! The tables of what was measured.
 
 use crate::block_calls;
-use crate::sealing_calls::{self, Figure, HEADER};
-use crate::side::{over_passes, Side, Times};
+use crate::sealing_calls::{self, Figure, Kind, HEADER};
+use crate::side::{over_passes, Costs, Side, Times};
 
 /// Bodies of the table of sealing and opening, beside the longest.
 const BODIES: [usize; 4] = [0, 16, 32, 1024];
@@ -13,9 +13,9 @@ const MEANING: &str = "Rival/ours above 1 means that ours is quicker.";
 const SIDES: &str = "     ours |     rival |    second | rival/ours | second/ours |";
 const RULES: &str = "---------:|----------:|----------:|-----------:|------------:|";
 
-fn sides(times: &Times) -> String {
-    let [ours, rival, second] = Side::ALL.map(|side| times.of(side));
-    let [rival_ratio, second_ratio] = [Side::Rival, Side::Second].map(|side| times.ratio(side));
+fn sides(costs: &Costs) -> String {
+    let [ours, rival, second] = Side::ALL.map(|side| costs.of(side));
+    let [rival_ratio, second_ratio] = [Side::Rival, Side::Second].map(|side| costs.ratio(side));
     format!("{ours:9.0} | {rival:9.0} | {second:9.0} | {rival_ratio:10.2} | {second_ratio:11.2} |")
 }
 
@@ -30,7 +30,10 @@ pub fn print_block_calls() {
     let all = over_passes(&kinds, block_calls::measure);
     for (kind, times) in kinds.iter().zip(all) {
         let (cipher, name, batches) = (kind.cipher_name(), kind.name(), times.batches);
-        println!("| {cipher:7} | {name:23} | {batches:7} | {}", sides(&times));
+        println!(
+            "| {cipher:7} | {name:23} | {batches:7} | {}",
+            sides(&times.quickest)
+        );
     }
 }
 
@@ -41,26 +44,29 @@ pub fn print_sealing() -> Vec<Figure> {
     println!("of {header} bytes, in the quickest of so many batches of so many calls, the sides");
     println!("taking turns. {MEANING}");
     println!();
-    println!("| scheme | call |   body | batches | calls | ours/byte | {SIDES}");
-    println!("|-------:|:-----|-------:|--------:|------:|----------:|-{RULES}");
-    let figures = sealing_calls::figures();
-    figures.iter().for_each(print_figure);
-    figures
+    println!("| scheme | call |    body | batches | calls | ours/byte | {SIDES}");
+    println!("|-------:|:-----|--------:|--------:|------:|----------:|-{RULES}");
+    let timed = sealing_calls::timed();
+    let shown = |kind: &Kind| BODIES.contains(&kind.body) || kind.is_longest();
+    for (kind, times) in timed.iter().filter(|(kind, _)| shown(kind)) {
+        print_times(kind, times);
+    }
+    let figure = |(kind, times): (Kind, Times)| Figure {
+        kind,
+        costs: times.quickest,
+    };
+    timed.into_iter().map(figure).collect()
 }
 
-fn print_figure(figure: &Figure) {
-    let Figure { kind, times } = figure;
-    if !BODIES.contains(&kind.body) && !kind.is_longest() {
-        return;
-    }
+fn print_times(kind: &Kind, times: &Times) {
     let (number, direction) = (kind.number, kind.direction.name());
     let (body, batches, calls) = (kind.body, times.batches, kind.calls());
     let byte = match body {
         0 => "-".to_string(),
-        _ => format!("{:.2}", times.of(Side::Ours) / body as f64),
+        _ => format!("{:.2}", times.quickest.of(Side::Ours) / body as f64),
     };
     println!(
-        "| {number:6} | {direction:4} | {body:6} | {batches:7} | {calls:5} | {byte:>9} | {}",
-        sides(times)
+        "| {number:6} | {direction:4} | {body:7} | {batches:7} | {calls:5} | {byte:>9} | {}",
+        sides(&times.quickest)
     );
 }
