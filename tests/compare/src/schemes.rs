@@ -7,9 +7,12 @@ use crate::calls::{fork, unfork};
 /// Bytes of a key under every scheme.
 pub const KEY_BYTES: usize = 16;
 
-/// Blocks of a header, and of a body, at most: 001, section 6.2, with thirteen
-/// bits of block number. Document 01 sets the same limit for SAEF.
-const MOST_BLOCKS: usize = 8191;
+/// Blocks of a header, and of a body, at most under PAEF: 001, section 6.2,
+/// with thirteen bits of block number.
+const MOST_PAEF_BLOCKS: usize = 8191;
+
+/// Bytes of each at most under SAEF, which numbers no block: C-12.
+const MOST_SAEF_BYTES: usize = 1_048_576;
 
 #[derive(Clone, Copy, PartialEq, Eq, Debug)]
 pub enum Mode {
@@ -56,7 +59,10 @@ impl Scheme {
     /// Bytes of a header, and of a body, at most. A short last block counts
     /// as a block.
     pub fn most_bytes(&self) -> usize {
-        MOST_BLOCKS * self.block_bytes
+        match self.mode {
+            Mode::Paef => MOST_PAEF_BLOCKS * self.block_bytes,
+            Mode::Saef => MOST_SAEF_BYTES,
+        }
     }
 }
 

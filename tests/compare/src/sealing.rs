@@ -1,5 +1,6 @@
 //! Seal, open and view (document 01, "What a caller is told", with the
-//! refusals of C-11). The first check that applies answers.
+//! refusals of C-11 and the limits of C-12). The first check that applies
+//! answers.
 
 use crate::schemes::{Keyed, Mode, Scheme};
 use crate::{paef, saef};

@@ -6,6 +6,7 @@ mod damage;
 mod faults;
 mod lengths;
 mod limits;
+mod long;
 mod others;
 mod rooms;
 

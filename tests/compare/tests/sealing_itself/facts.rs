@@ -72,6 +72,7 @@ fn the_two_headers_of_p12_are_kept_apart() {
     }
 }
 
+/// And the limits are document 01's under PAEF, and C-12's under SAEF.
 #[test]
 fn schemes_are_those_of_the_table() {
     let row = |cipher, mode, block_bytes, nonce_bytes| Scheme {
@@ -85,7 +86,7 @@ fn schemes_are_those_of_the_table() {
     assert_eq!(*row_of(3), row(2, Mode::Saef, 16, 15));
     assert_eq!(
         SCHEMES.map(|number| row_of(number).most_bytes()),
-        [65_528, 131_056, 131_056]
+        [65_528, 131_056, 1_048_576]
     );
 }
 
