@@ -7,7 +7,7 @@
 
 enum { DONE, UNKNOWN, WRONG_KEY_LENGTH, HEADER_TOO_LONG, TOO_SHORT, ROOM, FORGED, WRONG_NONCE_LENGTH, BODY_TOO_LONG };
 enum { FIRST, SECOND, BOTH };
-enum { MOST_BLOCKS = 8191, KEY_BYTES = 16 };
+enum { KEY_BYTES = 16 };
 
 /* ---- the block calls ---- */
 
@@ -38,7 +38,7 @@ uint32_t rival_unfork(uint32_t cipher, const uint8_t key[16], const uint8_t twea
 /* What a call was given, and what it carries from block to block; `sum` is PAEF's S or SAEF's Delta. */
 typedef struct {
     const Cipher *cipher;
-    size_t n;
+    size_t n, limit;
     int saef;
     const uint8_t *key, *nonce;
     unsigned number; /* of the next block: PAEF counts from 1 in header and body, SAEF marks the very first */
@@ -186,6 +186,7 @@ static uint32_t begin(Call *call, uint32_t scheme, const uint8_t *key, size_t ke
                       size_t header_len)
 {
     static const uint8_t NONCES[3] = {6, 14, 15};
+    static const size_t LIMITS[3] = {65528, 131056, 1048576}; /* PAEF numbers 8,191 blocks, SAEF none */
     if (scheme < 1 || scheme > 3)
         return UNKNOWN;
     if (key_len != KEY_BYTES)
@@ -194,7 +195,8 @@ static uint32_t begin(Call *call, uint32_t scheme, const uint8_t *key, size_t ke
         return WRONG_NONCE_LENGTH;
     call->cipher = &CIPHERS[scheme > 1];
     call->n = call->cipher->block;
-    if (header_len > MOST_BLOCKS * call->n)
+    call->limit = LIMITS[scheme - 1];
+    if (header_len > call->limit)
         return HEADER_TOO_LONG;
     call->saef = scheme == 3;
     call->key = key;
@@ -213,7 +215,7 @@ uint32_t rival_seal(uint32_t scheme, const uint8_t *key, size_t key_len, const u
     *length = 0;
     if (refused)
         return refused;
-    if (body_len > MOST_BLOCKS * call.n)
+    if (body_len > call.limit)
         return BODY_TOO_LONG;
     if (room_len < body_len + call.n)
         return ROOM;
@@ -236,7 +238,7 @@ uint32_t rival_open(uint32_t scheme, const uint8_t *key, size_t key_len, const u
     if (sealed_len < call.n)
         return TOO_SHORT;
     body_len = sealed_len - call.n;
-    if (body_len > MOST_BLOCKS * call.n)
+    if (body_len > call.limit)
         return BODY_TOO_LONG;
     if (room_len < body_len)
         return ROOM;
