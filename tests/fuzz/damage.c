@@ -33,23 +33,25 @@ static void change_scheme(struct record *r, struct random *d)
     }
 }
 
-/* Past a limit, or past what 32 bits can count. */
-static void make_too_long(struct record *r, struct random *d)
+static void make_too_long(struct record *r, const struct scheme *scheme, struct random *d)
 {
-    if (one_in(d, 4)) {
-        make_vast(r, d);
-    } else if (one_in(d, 2)) {
-        resize(&r->header, fitting(r, d)->limit + 1, d);
+    if (one_in(d, 2)) {
+        resize(&r->header, scheme->limit + 1, d);
     } else {
-        resize(&r->text, fitting(r, d)->limit + fitting(r, d)->block + 1, d);
+        resize(&r->text, scheme->limit + scheme->block + 1, d);
     }
 }
 
 void damage(struct record *r, struct random *d)
 {
     struct field *some = some_field(r, d);
-    if (one_in(d, 50)) {
-        make_too_long(r, d);
+    const struct scheme *scheme = fitting(r, d);
+    if (one_in(d, 200)) {
+        make_vast(r, d);
+        return;
+    }
+    if (past_limit(scheme, d)) {
+        make_too_long(r, scheme, d);
         return;
     }
     switch (below(d, 10)) {
@@ -63,13 +65,13 @@ void damage(struct record *r, struct random *d)
         resize(some, some->size + 1 + below(d, 20), d);
         break;
     case 3:
-        resize(&r->text, below(d, fitting(r, d)->block), d);
+        resize(&r->text, below(d, scheme->block), d);
         break;
     case 4:
         resize(&r->header, r->header.size + 1, d);
         break;
     case 5:
-        resize(&r->text, fitting(r, d)->block + below(d, 40), d);
+        resize(&r->text, scheme->block + below(d, 40), d);
         break;
     case 6:
     case 7:

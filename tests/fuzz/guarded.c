@@ -9,8 +9,10 @@
 #include <unistd.h>
 
 enum { AROUND = 64 };
-/* A multiple of every size of a page. */
-#define ZONE ((size_t)262144)
+/* Bytes that are watched behind what is held of a vast buffer. */
+#define BEHIND ((size_t)262144)
+/* Enough for the longest buffer with these, and a multiple of every size of a page. */
+#define ZONE ((size_t)24 * 65536)
 
 static uint8_t *checked(void *memory)
 {
@@ -54,7 +56,7 @@ static void place_vast(struct guarded *g, struct random *r)
         zone = new_zone(VAST);
     }
     g->bytes = zone + AROUND;
-    watch(g, zone, ZONE, r);
+    watch(g, zone, AROUND + (g->size - VAST) + BEHIND, r);
 }
 
 void guarded_place(struct guarded *g, size_t size, size_t align, struct random *r)

@@ -6,7 +6,7 @@
 #include "random.h"
 
 /* The longest buffer. */
-#define LONGEST ((size_t)200000)
+#define LONGEST ((size_t)1100000)
 /* A size of VAST and more, of which the low 32 bits alone look harmless, is honest too: so many bytes are there to be read. One buffer
  * at a time can be vast, and only its front can be written. */
 #define VAST ((size_t)1 << 32)

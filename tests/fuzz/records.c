@@ -45,21 +45,23 @@ static size_t some_size(size_t right, struct random *d)
     }
 }
 
-/* Mostly short and about the edges of blocks, sometimes thousands or past the limit, rarely at the limit, where a call takes long. */
+int past_limit(const struct scheme *scheme, struct random *d)
+{
+    return one_in(d, scheme->limit / 1000);
+}
+
+/* Mostly short and about the edges of blocks, sometimes thousands or past the limit, rarely at the limit: the longer that is, the longer a
+ * call takes, so the rarer it has to be, and no scheme's limit takes more of the time than another's. */
 static size_t some_length(const struct scheme *scheme, struct random *d)
 {
-    if (one_in(d, 12000)) {
+    if (one_in(d, scheme->limit / 20)) {
         return scheme->limit;
     }
-    switch (below(d, 200)) {
-    case 0:
-        return scheme->limit + 1;
-    case 1:
-        return scheme->limit + below(d, 1000) + 1;
-    case 2:
+    if (past_limit(scheme, d)) {
+        return scheme->limit + 1 + (one_in(d, 2) ? 0 : below(d, 1000));
+    }
+    if (one_in(d, 200)) {
         return below(d, 6000);
-    default:
-        break;
     }
     return one_in(d, 2) ? below(d, 80) : scheme->block * (1 + below(d, 4)) - 1 + below(d, 3);
 }

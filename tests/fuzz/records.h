@@ -16,6 +16,9 @@ struct field *some_field(struct record *r, struct random *d);
 /* The scheme that sizes are drawn for: the record's, or some known one if there is no such scheme. */
 const struct scheme *fitting(const struct record *r, struct random *d);
 
+/* Whether a length shall be past the limit: the more rarely the higher that is, since there are as many bytes to fill and to watch. */
+int past_limit(const struct scheme *scheme, struct random *d);
+
 /* A record to be sealed. */
 void draw_record(struct record *r, struct random *d);
 

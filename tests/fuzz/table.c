@@ -2,7 +2,7 @@
 
 const struct scheme *scheme_of(uint32_t number)
 {
-    static const struct scheme schemes[] = {{8, 6, 65528}, {16, 14, 131056}, {16, 15, 131056}};
+    static const struct scheme schemes[] = {{8, 6, 65528}, {16, 14, 131056}, {16, 15, 1048576}};
     return number >= 1 && number <= 3 ? &schemes[number - 1] : NULL;
 }
 

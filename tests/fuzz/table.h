@@ -1,5 +1,5 @@
-/* What document 01 ("What a caller is told", with the refusals of request C-11) says of a call of seal or open, worked out from scheme and
- * sizes alone. */
+/* What document 01 ("What a caller is told", with the refusals of request C-11 and the limits of C-12) says of a call of seal or open,
+ * worked out from scheme and sizes alone. */
 #ifndef FUZZ_TABLE_H
 #define FUZZ_TABLE_H
 
