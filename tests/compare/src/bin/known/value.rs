@@ -7,15 +7,16 @@ const LEAST_COUNTED: usize = 8;
 /// another way to say it.
 const LONGEST: usize = 200;
 
-/// Hex, and rows of equal bytes by their count; `-` for no byte.
-pub fn plain(bytes: &[u8]) -> String {
+/// Hex, and rows of equal bytes by their count; `-` for no byte. With more than
+/// `longest` characters it is left at that.
+fn front_of(bytes: &[u8], longest: usize) -> String {
     if bytes.is_empty() {
         return "-".to_string();
     }
     let mut text = String::new();
     let mut counted_before = false;
     let mut rest = bytes;
-    while let Some(first) = rest.first() {
+    while let Some(first) = rest.first().filter(|_| text.len() <= longest) {
         let count = rest.iter().take_while(|byte| *byte == first).count();
         let counted = count >= LEAST_COUNTED;
         if !text.is_empty() && (counted || counted_before) {
@@ -32,6 +33,16 @@ pub fn plain(bytes: &[u8]) -> String {
     text
 }
 
+/// The whole text.
+pub fn plain(bytes: &[u8]) -> String {
+    front_of(bytes, usize::MAX)
+}
+
+/// The whole text if it is not too long.
+fn short(bytes: &[u8]) -> Option<String> {
+    Some(front_of(bytes, LONGEST)).filter(|text| text.len() <= LONGEST)
+}
+
 /// FNV-1a with 64 bits.
 fn sum_of(bytes: &[u8]) -> u64 {
     let start = 0xcbf2_9ce4_8422_2325;
@@ -42,19 +53,13 @@ fn sum_of(bytes: &[u8]) -> u64 {
 
 /// What a room holds after a call: if that is long, by its length and sum.
 pub fn plain_or_sum(bytes: &[u8]) -> String {
-    let text = plain(bytes);
-    if text.len() <= LONGEST {
-        return text;
-    }
-    format!("sum {} {:016x}", bytes.len(), sum_of(bytes))
+    short(bytes).unwrap_or_else(|| format!("sum {} {:016x}", bytes.len(), sum_of(bytes)))
 }
 
 /// A body or a run: if it is long, by the record before, which gave it.
 pub fn plain_or_last(bytes: &[u8], last: &[u8]) -> String {
-    let text = plain(bytes);
-    if text.len() <= LONGEST {
-        return text;
-    }
-    assert!(bytes == last, "a long text that no record gave");
-    "last".to_string()
+    short(bytes).unwrap_or_else(|| {
+        assert!(bytes == last, "a long text that no record gave");
+        "last".to_string()
+    })
 }
