@@ -4,7 +4,7 @@
 #include <stdlib.h>
 #include <string.h>
 
-enum { LONGEST_LINE = 255, LONGEST_STRING = 131076 };
+enum { LONGEST_LINE = 255, LONGEST_STRING = 1048596 };
 
 static const char *file_name;
 static FILE *file;
@@ -172,7 +172,7 @@ static const char *read_part(const char *text, uint8_t *string, size_t *size)
         if (counted)
             count = number_at(text + 1, &text);
         if (count > LONGEST_STRING - *size)
-            damaged("a byte string has 131,076 bytes at most");
+            damaged("a byte string has 1,048,596 bytes at most");
         memset(string + *size, byte, count);
         *size += count;
     } while (!counted && *text != '\0' && *text != ' ');

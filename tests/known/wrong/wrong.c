@@ -21,6 +21,7 @@
  *  19  the nonce's length is judged before the key's
  *  20  the body's length is judged before the header's
  *  21  the room is cleared with 7 and 8
+ *  22  scheme 3 has the limit of scheme 2
  *
  * and nothing with 0. */
 #include "wrong.h"
@@ -29,6 +30,9 @@
 
 #include <stdlib.h>
 #include <string.h>
+
+/* As the top of the known answers tells. */
+enum { LONGEST_ROOM = 1048596 };
 
 static int is_wrong(int number)
 {
@@ -59,7 +63,8 @@ static size_t nonce_of(const struct call *c)
 
 static size_t limit_of(const struct call *c)
 {
-    return c->scheme == 1 ? 65528 : 131056;
+    static const size_t limits[3] = {65528, 131056, 1048576};
+    return limits[c->scheme - 1];
 }
 
 static size_t longest_text_of(const struct call *c)
@@ -111,6 +116,18 @@ static uint32_t wrong_length(const struct call *c, uint32_t number)
     return number;
 }
 
+/* The same under a limit that is another scheme's. */
+static uint32_t wrong_limit(const struct call *c, uint32_t number)
+{
+    struct call other = *c;
+    other.scheme = 2;
+    if (!is_wrong(22) || c->scheme != 3 || (number != 0 && number != 6))
+        return number;
+    if (c->header_len > limit_of(&other))
+        return 3;
+    return c->text_len > longest_text_of(&other) ? 8 : number;
+}
+
 /* Calls the library with what is wrong about the arguments. */
 static uint32_t changed_call(struct call c)
 {
@@ -128,11 +145,11 @@ static uint32_t changed_call(struct call c)
 
 static uint32_t sealing(struct call c)
 {
+    static uint8_t kept[1 + LONGEST_ROOM];
     size_t untold = *c.length, output = output_of(&c);
-    uint8_t kept[1 + 131076];
     memcpy(kept + 1, c.room, c.room_len);
     uint32_t number = changed_call(c);
-    uint32_t answer = wrong_length(&c, wrong_check(&c, number));
+    uint32_t answer = wrong_limit(&c, wrong_length(&c, wrong_check(&c, number)));
     if (answer != number) {
         memcpy(c.room, kept + 1, c.room_len);
         *c.length = 0;

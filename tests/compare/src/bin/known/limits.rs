@@ -3,13 +3,35 @@
 use crate::book::Book;
 use compare::random::Random;
 use compare::records::{row_of, Call};
+use compare::schemes::{Mode, Scheme};
 use compare::sealing::{BODY_TOO_LONG, DONE, HEADER_TOO_LONG, NOT_AUTHENTIC, NO_BLOCK};
 
 const FILLING: u8 = 0x61;
 
+/// Lengths of header and body where the header is at its limit. A record of
+/// SAEF's limit takes long: there is one of the header and one of the body, each
+/// with a block of the other, so that it has more blocks than sixteen bits count.
+fn long_headers(row: &Scheme) -> Vec<(usize, usize)> {
+    let limit = row.most_bytes();
+    match row.mode {
+        Mode::Paef => vec![(limit, 5), (limit - 1, 0)],
+        Mode::Saef => vec![(limit, 5)],
+    }
+}
+
+/// The same where the body is at its limit.
+fn long_bodies(row: &Scheme) -> Vec<(usize, usize)> {
+    let limit = row.most_bytes();
+    match row.mode {
+        Mode::Paef => vec![(0, limit), (limit, limit), (3, limit - 1)],
+        Mode::Saef => vec![(3, limit)],
+    }
+}
+
 fn write_headers(book: &mut Book, random: &mut Random, scheme: u32) {
-    let limit = row_of(scheme).most_bytes();
-    for (header, body) in [(limit, 5), (limit - 1, 0)] {
+    let row = row_of(scheme);
+    let limit = row.most_bytes();
+    for (header, body) in long_headers(row) {
         let call = Call::seal(random, scheme, &vec![FILLING; header], &vec![FILLING; body]);
         let about = format!("Header of {} bytes.", header);
         let run = book.sealing(&about, &call, DONE);
@@ -23,7 +45,7 @@ fn write_headers(book: &mut Book, random: &mut Random, scheme: u32) {
 fn write_bodies(book: &mut Book, random: &mut Random, scheme: u32) {
     let row = row_of(scheme);
     let limit = row.most_bytes();
-    for (header, body) in [(0, limit), (limit, limit), (3, limit - 1)] {
+    for (header, body) in long_bodies(row) {
         let call = Call::seal(random, scheme, &vec![FILLING; header], &vec![FILLING; body]);
         let about = format!("Header of {} bytes, body of {}.", header, body);
         let run = book.sealing(&about, &call, DONE);
