@@ -1,5 +1,5 @@
-/* A plugin for qemu 7: counts the instructions of the program that qemu runs, and says at its end how many there were, in callgrind's words.
- * Debian has no header of qemu's interface for plugins; what is used of it is declared here. */
+/* A plugin for qemu 7: counts the instructions of the program that qemu runs, and says at its end how many there were, in callgrind's
+ * words. Debian has no header of qemu's interface for plugins; what is used of it is declared here. */
 #include <inttypes.h>
 #include <stddef.h>
 #include <stdio.h>
