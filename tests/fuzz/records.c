@@ -51,7 +51,7 @@ int past_limit(const struct scheme *scheme, struct random *d)
 }
 
 /* Mostly short and about the edges of blocks, sometimes thousands or past the limit, rarely at the limit: the longer that is, the longer a
- * call takes, so the rarer it has to be, and no scheme's limit takes more of the time than another's. */
+ * call takes, and the rarer it has to be, so that one scheme's limit does not take most of the time. */
 static size_t some_length(const struct scheme *scheme, struct random *d)
 {
     if (one_in(d, scheme->limit / 20)) {

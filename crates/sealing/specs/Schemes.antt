@@ -18,7 +18,7 @@ scheme1 = record { cipher = N64T192; kind = Paef; key = 16; nonce = 6; header = 
 abbrev pub scheme2 : Scheme
 scheme2 = record { cipher = N128T256; kind = Paef; key = 16; nonce = 14; header = 131056; body = 131056 }
 
--- SAEF numbers none: at most 1,048,576 bytes (02, C-12)
+-- SAEF numbers none: at most 1,048,576 bytes (C-12)
 abbrev pub scheme3 : Scheme
 scheme3 = record { cipher = N128T256; kind = Saef; key = 16; nonce = 15; header = 1048576; body = 1048576 }
 
