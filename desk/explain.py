@@ -61,7 +61,7 @@ NUMBERS = {
     6: Number(
         "not authentic",
         "Only open: no body seals to this run under this scheme, key, nonce and header. Whether the tag or the padding "
-        "failed is not told.",
+        "failed is not told. As many rounds were run as by an open that is done.",
         "First the header, each byte and its length: fifteen bytes, and the same with 80 added, pad to the same block "
         "and are still two headers. Then nonce, key and scheme; then whether the run came unchanged. No limit is to be "
         "read from a run that answered 6.",

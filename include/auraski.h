@@ -1,4 +1,4 @@
-/* Auraski for C: sealing and opening of records with PAEF and SAEF, and ForkSkinny's block calls.
+/* Auraski for C: sealing and opening of records with PAEF and SAEF, the rounds that they run, and ForkSkinny's block calls.
  *
  * SPDX-License-Identifier: 0BSD
  *
@@ -8,10 +8,10 @@
  * next: calls may run at the same time in several threads. A call does not wipe its stack: parts of key and body may stay behind there.
  * How long a call takes, and which memory it reads, may depend on the key and the data.
  *
- * A pointer stands for as many bytes as the length behind it says, and `length` for one size_t. No pointer may be null; where the length
- * is 0 any other will do, such as the address of any object, and nothing is read or written through it. What a call writes (room and
- * *length, or both result blocks) must not overlap anything else that it is given, so that nothing is sealed or opened in place; what it
- * only reads may overlap. A call changes nothing but what is said below, and returns, for every value of every argument and every length.
+ * A pointer stands for as many bytes as the length behind it says, `length` for one size_t and `rounds` for one uint32_t. No pointer may be
+ * null; where the length is 0 any other will do, such as the address of any object, and nothing is read or written through it. What a call
+ * writes (room and *length, *rounds, or both result blocks) must not overlap anything else that it is given, so that nothing is sealed or
+ * opened in place; what it only reads may overlap. A call changes nothing but what is said below, and returns, for every value of every argument and every length.
  *
  * What is proved is proved of the library's source. That its machine code does the same, and that the prototypes below fit what it exports,
  * is assumed, and tested. Take the header that came with the library: nothing checks that the two belong together.
@@ -23,9 +23,9 @@
 #include <stdint.h>
 
 /* The same as `pkg-config --modversion auraski` says. */
-#define AURASKI_VERSION "0.4.0"
+#define AURASKI_VERSION "0.5.0"
 #define AURASKI_VERSION_MAJOR 0
-#define AURASKI_VERSION_MINOR 4
+#define AURASKI_VERSION_MINOR 5
 #define AURASKI_VERSION_PATCH 0
 
 /* A call takes at most so many bytes of stack, its arguments included, whatever the record's length: an empty one takes as much as one with
@@ -104,6 +104,22 @@ uint32_t auraski_open(uint32_t scheme, const uint8_t *key, size_t key_len, const
                       const uint8_t *header, size_t header_len, const uint8_t *sealed, size_t sealed_len, uint8_t *room,
                       size_t room_len, size_t *length) AURASKI_CHECKED;
 
+/* ---- rounds ---- */
+
+/* Tells how many rounds of ForkSkinny a seal runs for a header and a body of these lengths, or an open of a run of body_len and a block
+ * of bytes: the two run as many, whatever key, nonce and bytes they are given. With 0 the number goes to *rounds. Refused as they are with
+ * 1, 3 or 8: *rounds is 0. An open that is refused with 6 has run as many as one that is done; a call that is refused with any other number
+ * has run none.
+ *
+ *                            a header block   a body block   at most, header and body together
+ *   1  PAEF over 64-192                  40             63     843,673 rounds
+ *   2  PAEF over 128-256                 48             75   1,007,493
+ *   3  SAEF over 128-256                 48             75   8,060,928
+ *
+ * A short last block counts as a block, and an empty header or body has none; but where both are empty, one header block is worked. Making
+ * the round keys is not counted. */
+uint32_t auraski_rounds(uint32_t scheme, size_t header_len, size_t body_len, uint32_t *rounds) AURASKI_CHECKED;
+
 /* ---- the block calls: AURASKI_DONE or AURASKI_UNKNOWN ---- */
 
 /* Ciphers. Every key, tweak and block has sixteen bytes under both. Under ForkSkinny-64-192 only the first 8 of tweak and block count,
@@ -120,6 +136,9 @@ uint32_t auraski_open(uint32_t scheme, const uint8_t *key, size_t key_len, const
 /* Which half a block is, for the way back. */
 #define AURASKI_HALF_0 0u
 #define AURASKI_HALF_1 1u
+
+/* Rounds. Forward, one half takes 40 under ForkSkinny-64-192 and 48 under ForkSkinny-128-256, and both take 63 and 75. Back, the input alone
+ * takes as many as one half, both results as many as both halves, and the other half alone 46 and 54. A refused call takes none. */
 
 /* Forward: half 0 (the first result) and half 1 (the second) of a block. */
 uint32_t auraski_fork(uint32_t cipher, const uint8_t key[16], const uint8_t tweak[16], const uint8_t block[16],

@@ -1,6 +1,6 @@
-//! Finds libauraski.a for the comparison: in target/staticlib of the
-//! repository's root, or where AURASKI_LIB_DIR says. For the benchmark it finds
-//! librival.a too, which tools/bench has put into target/rival.
+//! Finds libauraski.a, and libmeter.a for the comparison: in target/staticlib of
+//! the repository's root, or where AURASKI_LIB_DIR says. For the benchmark it
+//! finds librival.a too, which tools/bench has put into target/rival.
 
 use std::env;
 use std::path::PathBuf;
@@ -24,15 +24,21 @@ fn link(name: &str, directory: PathBuf, advice: &str) {
     println!("cargo:rustc-link-lib=static:-bundle={name}");
 }
 
+/// Where the proved archives are.
+fn proved() -> PathBuf {
+    let named = env::var_os("AURASKI_LIB_DIR").map(PathBuf::from);
+    named.unwrap_or_else(|| target("staticlib"))
+}
+
 fn main() {
     println!("cargo:rerun-if-env-changed=AURASKI_LIB_DIR");
     println!("cargo:rerun-if-changed=build.rs");
+    let advice = "Build it, or set AURASKI_LIB_DIR, or leave it out with --no-default-features.";
+    if env::var_os("CARGO_FEATURE_METER").is_some() {
+        link("meter", proved(), advice);
+    }
     if env::var_os("CARGO_FEATURE_LIBRARY").is_some() {
-        let named = env::var_os("AURASKI_LIB_DIR").map(PathBuf::from);
-        let directory = named.unwrap_or_else(|| target("staticlib"));
-        let advice =
-            "Build it, or set AURASKI_LIB_DIR, or leave it out with --no-default-features.";
-        link("auraski", directory, advice);
+        link("auraski", proved(), advice);
     }
     if env::var_os("CARGO_FEATURE_RIVAL").is_some() {
         link("rival", target("rival"), "tools/bench builds it.");

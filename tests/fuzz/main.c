@@ -48,9 +48,15 @@ static void run_case(const struct options *o, uint64_t number)
 {
     struct random d = random_of(o->seed, number);
     report_case(o->seed, number, o->alone);
-    if (one_in(&d, 4)) {
+    switch (below(&d, 8)) {
+    case 0:
+        rounds_case(&d);
+        break;
+    case 1:
+    case 2:
         block_case(&d);
-    } else {
+        break;
+    default:
         sealing_case(&d);
     }
 }

@@ -10,9 +10,9 @@
 
 enum { NUMBERS = 9, LONGEST_CASE_SECONDS = 300 };
 
-static const char *const names[ENTRIES] = {"seal", "open", "fork", "unfork"};
+static const char *const names[ENTRIES] = {"seal", "open", "rounds", "fork", "unfork"};
 /* The numbers that each can answer. */
-static const char *const can_answer[ENTRIES] = {"0123578", "012345678", "01", "01"};
+static const char *const can_answer[ENTRIES] = {"0123578", "012345678", "0138", "01", "01"};
 
 static uint64_t answers[ENTRIES][NUMBERS];
 static int runs_alone;

@@ -2,7 +2,7 @@
 
 const struct scheme *scheme_of(uint32_t number)
 {
-    static const struct scheme schemes[] = {{8, 6, 65528}, {16, 14, 131056}, {16, 15, 1048576}};
+    static const struct scheme schemes[] = {{8, 6, 65528, 40, 63}, {16, 14, 131056, 48, 75}, {16, 15, 1048576, 48, 75}};
     return number >= 1 && number <= 3 ? &schemes[number - 1] : NULL;
 }
 
@@ -52,4 +52,34 @@ uint32_t due_of_open(const struct record *r, size_t room, int authentic)
         return 5;
     }
     return authentic ? 0 : 6;
+}
+
+uint32_t due_of_rounds(uint32_t number, size_t header, size_t body)
+{
+    const struct scheme *scheme = scheme_of(number);
+    if (scheme == NULL) {
+        return 1;
+    }
+    if (header > scheme->limit) {
+        return 3;
+    }
+    return body > scheme->limit ? 8 : 0;
+}
+
+/* Gone over one by one, so that a short last block needs no thought. */
+static uint32_t blocks_of(size_t length, size_t block)
+{
+    uint32_t count = 0;
+    for (size_t at = 0; at < length; at += block) {
+        count++;
+    }
+    return count;
+}
+
+uint32_t rounds_of(const struct scheme *scheme, size_t header, size_t body)
+{
+    if (header == 0 && body == 0) {
+        return scheme->one;
+    }
+    return blocks_of(header, scheme->block) * scheme->one + blocks_of(body, scheme->block) * scheme->both;
 }

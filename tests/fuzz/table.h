@@ -1,5 +1,5 @@
-/* What document 01 ("What a caller is told", with the refusals of request C-11 and the limits of C-12) says of a call of seal or open,
- * worked out from scheme and sizes alone. */
+/* What document 01 ("What a caller is told", with the refusals of request C-11 and the limits of C-12) says of a call of seal or open, and
+ * what C-13 says of their rounds, worked out from scheme and sizes alone. */
 #ifndef FUZZ_TABLE_H
 #define FUZZ_TABLE_H
 
@@ -10,6 +10,7 @@ enum { KEY_SIZE = 16 };
 
 struct scheme {
     size_t block, nonce, limit;
+    uint32_t one, both; /* the rounds of a block call for half 0, and for two results */
 };
 
 /* NULL if there is no such scheme. */
@@ -29,5 +30,9 @@ struct record {
 /* The number that is due, with a room of so many bytes. */
 uint32_t due_of_seal(const struct record *r, size_t room);
 uint32_t due_of_open(const struct record *r, size_t room, int authentic);
+uint32_t due_of_rounds(uint32_t scheme, size_t header, size_t body);
+
+/* The rounds that are due with number 0. */
+uint32_t rounds_of(const struct scheme *scheme, size_t header, size_t body);
 
 #endif

@@ -1,5 +1,5 @@
-/* One call, which CALL names (1 seal, 2 open, 3 fork, 4 unfork), as it should be. With one of the pointers below defined as NULL, or with
- * IGNORED defined, a compiler that takes warnings as errors has to refuse it. */
+/* One call, which CALL names (1 seal, 2 open, 3 fork, 4 unfork, 5 rounds), as it should be. With one of the pointers below defined as NULL,
+ * or with IGNORED defined, a compiler that takes warnings as errors has to refuse it. */
 #include "auraski.h"
 
 /* A second time: nothing is said twice. */
@@ -39,6 +39,9 @@
 #ifndef SECOND
 #define SECOND second
 #endif
+#ifndef ROUNDS
+#define ROUNDS rounds
+#endif
 
 #ifdef IGNORED
 #define LOOKED_AT
@@ -58,6 +61,15 @@ uint32_t call(const uint8_t *key, const uint8_t *nonce, const uint8_t *header, c
     uint32_t answer = AURASKI_DONE;
     (void)key, (void)nonce, (void)header, (void)text, (void)room, (void)length;
     LOOKED_AT NAME(AURASKI_SAEF_128_256, KEY, AURASKI_KEY_BYTES, NONCE, AURASKI_SAEF_128_256_NONCE, HEADER, 0, TEXT, 16, ROOM, 32, LENGTH);
+    return answer;
+}
+#elif CALL == 5
+uint32_t call(uint32_t *rounds);
+uint32_t call(uint32_t *rounds)
+{
+    uint32_t answer = AURASKI_DONE;
+    (void)rounds;
+    LOOKED_AT auraski_rounds(AURASKI_SAEF_128_256, 0, 16, ROUNDS);
     return answer;
 }
 #else

@@ -1,8 +1,8 @@
-/* reader FILE: holds an implementation of the four calls to the known answers in FILE: in every record the number, the length and every byte
- * of the room or the result blocks. The top of FILE says in which form it is.
+/* reader FILE: holds an implementation of the five calls to the known answers in FILE: in every record the number, the length or the rounds
+ * and every byte of the room or the result blocks. The top of FILE says in which form it is.
  *
- * It tries auraski_seal, auraski_open, auraski_fork and auraski_unfork. With -DIMPLEMENTATION=NAME, and -include of a header that declares
- * them, it tries NAME_seal, NAME_open, NAME_fork and NAME_unfork, which have the same parameters.
+ * It tries auraski_seal, auraski_open, auraski_fork, auraski_unfork and auraski_rounds. With -DIMPLEMENTATION=NAME, and -include of a header
+ * that declares them, it tries NAME_seal, NAME_open, NAME_fork, NAME_unfork and NAME_rounds, which have the same parameters.
  *
  * SPDX-License-Identifier: 0BSD
  *
@@ -171,6 +171,21 @@ static void block_record(int back)
     keep_nothing();
 }
 
+static void rounds_record(void)
+{
+    uint32_t scheme = read_number("scheme");
+    uint32_t header_len = read_number("header_len");
+    uint32_t body_len = read_number("body_len");
+    uint32_t due = read_number("number");
+    uint32_t due_rounds = read_number("rounds");
+
+    uint32_t rounds = UINT32_MAX;
+    uint32_t number = CALL(rounds)(scheme, header_len, body_len, &rounds);
+    judge_number("the number", number, due);
+    judge_number("the count of rounds", rounds, due_rounds);
+    keep_nothing();
+}
+
 static void any_record(void)
 {
     const char *call = read_value("call");
@@ -182,8 +197,10 @@ static void any_record(void)
         block_record(0);
     else if (strcmp(call, "unfork") == 0)
         block_record(1);
+    else if (strcmp(call, "rounds") == 0)
+        rounds_record();
     else
-        damaged("a call is seal, open, fork or unfork");
+        damaged("a call is seal, open, fork, unfork or rounds");
 }
 
 int main(int count, char **arguments)

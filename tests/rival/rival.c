@@ -179,14 +179,15 @@ static int open_body(Call *call, const uint8_t *run, size_t left, uint8_t *out)
     return memcmp(half1, run + n, left) == 0 && memcmp(padded, last, n) == 0;
 }
 
-/* ---- seal and open ---- */
+/* ---- seal, open and their rounds ---- */
+
+static const size_t LIMITS[3] = {65528, 131056, 1048576}; /* PAEF numbers 8,191 blocks, SAEF none */
 
 /* The checks that both have in common; sets up the call. */
 static uint32_t begin(Call *call, uint32_t scheme, const uint8_t *key, size_t key_len, const uint8_t *nonce, size_t nonce_len,
                       size_t header_len)
 {
     static const uint8_t NONCES[3] = {6, 14, 15};
-    static const size_t LIMITS[3] = {65528, 131056, 1048576}; /* PAEF numbers 8,191 blocks, SAEF none */
     if (scheme < 1 || scheme > 3)
         return UNKNOWN;
     if (key_len != KEY_BYTES)
@@ -248,5 +249,23 @@ uint32_t rival_open(uint32_t scheme, const uint8_t *key, size_t key_len, const u
         return FORGED;
     }
     *length = body_len;
+    return DONE;
+}
+
+uint32_t rival_rounds(uint32_t scheme, size_t header_len, size_t body_len, uint32_t *rounds)
+{
+    *rounds = 0;
+    if (scheme < 1 || scheme > 3)
+        return UNKNOWN;
+    if (header_len > LIMITS[scheme - 1])
+        return HEADER_TOO_LONG;
+    if (body_len > LIMITS[scheme - 1])
+        return BODY_TOO_LONG;
+    const Cipher *cipher = &CIPHERS[scheme > 1];
+    size_t n = cipher->block;
+    uint32_t header = (uint32_t)((header_len + n - 1) / n), body = (uint32_t)((body_len + n - 1) / n);
+    if (header + body == 0)
+        header = 1; /* the padded empty block */
+    *rounds = header * (uint32_t)(cipher->init + cipher->branch) + body * (uint32_t)(cipher->init + 2 * cipher->branch);
     return DONE;
 }

@@ -15,6 +15,7 @@ enum { MOST = AURASKI_SAEF_128_256_LIMIT, BLOCK = AURASKI_SAEF_128_256_BLOCK };
 
 static uint8_t key[16], nonce[16], header[MOST + 1], body[MOST + 1], run[MOST + 1 + BLOCK], room[MOST + 1 + BLOCK];
 static size_t length;
+static uint32_t rounds;
 static int failures;
 
 typedef struct {
@@ -149,6 +150,39 @@ static size_t take_scheme(const Scheme *scheme)
     return most;
 }
 
+/* ---- rounds ---- */
+
+static Call rounds_call(uint32_t scheme, size_t header_len, size_t body_len)
+{
+    Call call = {(void (*)(void))auraski_rounds, {scheme, header_len, body_len, at(&rounds)}};
+    return call;
+}
+
+static size_t take_refused_rounds(const Scheme *scheme)
+{
+    const Call calls[3] = {rounds_call(4, 16, 16), rounds_call(scheme->scheme, scheme->most + 1, 16),
+                           rounds_call(scheme->scheme, 16, scheme->most + 1)};
+    const uint32_t answers[3] = {AURASKI_UNKNOWN, AURASKI_HEADER_TOO_LONG, AURASKI_BODY_TOO_LONG};
+    size_t most = 0;
+    for (int i = 0; i < 3; i++)
+        most = greater(most, take("refused rounds", &calls[i], answers[i]));
+    return most;
+}
+
+/* Of the lengths of the records above. The call gets lengths and no record: only the bound is held. */
+static size_t take_rounds(const Scheme *scheme)
+{
+    const size_t lengths[3] = {0, 3 * scheme->block + 1, scheme->most};
+    size_t depths[3], refused = take_refused_rounds(scheme), most = refused;
+    for (int i = 0; i < 3; i++) {
+        Call call = rounds_call(scheme->scheme, lengths[i], lengths[i]);
+        depths[i] = take("rounds", &call, AURASKI_DONE);
+        most = greater(most, depths[i]);
+    }
+    print_row("auraski_rounds", scheme->scheme, depths, refused);
+    return most;
+}
+
 /* ---- the block calls ---- */
 
 static Call block_call(int back, uint32_t cipher, uint32_t from, uint32_t want)
@@ -183,8 +217,10 @@ int main(void)
     puts("Bytes of stack from the call instruction on, in the deepest of the calls that a column names.\n");
     puts("| entry point    | scheme | empty record |   4 blocks | longest record | refused |");
     puts("|:---------------|-------:|-------------:|-----------:|---------------:|--------:|");
-    for (int i = 0; i < 3; i++)
+    for (int i = 0; i < 3; i++) {
         most = greater(most, take_scheme(&SCHEMES[i]));
+        most = greater(most, take_rounds(&SCHEMES[i]));
+    }
     puts("\n| entry point    | cipher | first result |     second |           both | refused |");
     puts("|:---------------|-------:|-------------:|-----------:|---------------:|--------:|");
     for (uint32_t cipher = 1; cipher < 3; cipher++)

@@ -1,8 +1,9 @@
 // The entry points for C: plain numbers and byte runs. The header include/auraski.h tells a C programmer what each call means.
 ghost use mathlib.Core.Path.{_≡_};
 ghost use Rattle.forkskinny.specs.Calls.{forkOf, unforkOf};
+ghost use Rattle.sealing.specs.Budget.{budgetOf};
 ghost use Rattle.sealing.specs.Calls.{sealOf, openOf};
-ghost use Rattle.auraski.specs.Entries.{forkTold, unforkTold, answered};
+ghost use Rattle.auraski.specs.Entries.{blocks, halvesIn, backIn, answered, answerIn, counted};
 
 // ForkSkinny forward: the number, and both halves written.
 #[no_mangle]
@@ -15,7 +16,7 @@ pub extern "C" fn auraski_fork(
     half0: &mut [u8; 16],
     half1: &mut [u8; 16],
 ) -> u32
-    ensures { λ r. ⌜ forkTold r (now (half0 .exit)) (now (half1 .exit)) ≡ forkOf cipher (now (key .entry)) (now (tweak .entry)) (now (block .entry)) want ⌝ }
+    ensures { λ r. ⌜ blocks r (now (half0 .exit)) (now (half1 .exit)) ≡ halvesIn (forkOf cipher (now (key .entry)) (now (tweak .entry)) (now (block .entry)) want) ⌝ }
 {
     let f = forkskinny::fork(cipher, *key, *tweak, *block, want);
     let a = f.half0;
@@ -37,7 +38,7 @@ pub extern "C" fn auraski_unfork(
     input: &mut [u8; 16],
     other: &mut [u8; 16],
 ) -> u32
-    ensures { λ r. ⌜ unforkTold r (now (input .exit)) (now (other .exit)) ≡ unforkOf cipher (now (key .entry)) (now (tweak .entry)) (now (block .entry)) from want ⌝ }
+    ensures { λ r. ⌜ blocks r (now (input .exit)) (now (other .exit)) ≡ backIn (unforkOf cipher (now (key .entry)) (now (tweak .entry)) (now (block .entry)) from want) ⌝ }
 {
     let f = forkskinny::unfork(cipher, *key, *tweak, *block, from, want);
     let a = f.input;
@@ -58,7 +59,7 @@ pub extern "C" fn auraski_seal(
     room: &mut [u8],
     length: &mut usize,
 ) -> u32
-    ensures { λ r. ⌜ answered r (now (length .exit)) (now (room .exit)) ≡ sealOf scheme (now (key .entry)) (now (nonce .entry)) (now (header .entry)) (now (body .entry)) (now (room .entry)) ⌝ }
+    ensures { λ r. ⌜ answered r (now (length .exit)) (now (room .exit)) ≡ answerIn (sealOf scheme (now (key .entry)) (now (nonce .entry)) (now (header .entry)) (now (body .entry)) (now (room .entry))) ⌝ }
 {
     let a = sealing::seal(scheme, key, nonce, header, body, room);
     *length = a.length;
@@ -76,9 +77,19 @@ pub extern "C" fn auraski_open(
     room: &mut [u8],
     length: &mut usize,
 ) -> u32
-    ensures { λ r. ⌜ answered r (now (length .exit)) (now (room .exit)) ≡ openOf scheme (now (key .entry)) (now (nonce .entry)) (now (header .entry)) (now (sealed .entry)) (now (room .entry)) ⌝ }
+    ensures { λ r. ⌜ answered r (now (length .exit)) (now (room .exit)) ≡ answerIn (openOf scheme (now (key .entry)) (now (nonce .entry)) (now (header .entry)) (now (sealed .entry)) (now (room .entry))) ⌝ }
 {
     let b = sealing::open(scheme, key, nonce, header, sealed, room);
     *length = b.length;
     b.number
+}
+
+// Counts the rounds of a record by its lengths: the number, and the rounds of a seal or an open written.
+#[no_mangle]
+pub extern "C" fn auraski_rounds(scheme: u32, header: usize, body: usize, rounds: &mut u32) -> u32
+    ensures { λ r. ⌜ counted r (now (rounds .exit)) ≡ budgetOf scheme header body ⌝ }
+{
+    let c = sealing::rounds_of(scheme, header, body);
+    *rounds = c.rounds;
+    c.number
 }

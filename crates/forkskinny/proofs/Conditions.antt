@@ -16,7 +16,7 @@ use Rattle.cells.proofs.Choice.{either}
 use Rattle.forkskinny.specs.declared.Forked.{Forked}
 use Rattle.forkskinny.specs.declared.Unforked.{Unforked}
 use Rattle.forkskinny.specs.ForkSkinny.{half, input, other, otherOf}
-use Rattle.forkskinny.specs.Calls.{zeros, given, wants, numberOf, forkRefused, forkBy, forkOf, unforkRefused, unforkBy, unforkOf}
+use Rattle.forkskinny.specs.Calls.{zeros, given, wants, numberOf, forkRounds, forkRefused, forkBy, forkOf, unforkRounds, unforkRefused, unforkBy, unforkOf}
 use Rattle.forkskinny.proofs.Forkcipher.{input-half, other-half, half-input}
 use Rattle.forkskinny.proofs.Forkcipher.{half-behind, input-behind, other-behind, half-front, input-front, other-front}
 
@@ -91,13 +91,13 @@ module _ (c : Cipher) (key tweak : List ℕ) where
   -- ---- conditions 3 and 4: both results at once are the two alone, whatever the lists hold
 
   pub condition-3 : (m : List ℕ)
-      → forkOf (numberOf c) key tweak m 2 ≡ record { number = 0; half0 = forkOne c key tweak m 0; half1 = forkOne c key tweak m 1 }
+      → forkOf (numberOf c) key tweak m 2 ≡ record { number = 0; half0 = forkOne c key tweak m 0; half1 = forkOne c key tweak m 1; rounds = forkRounds c 2 }
   unfolding wants
   condition-3 m = rw (one m 0 (omega arith), one m 1 (omega arith), forks c key tweak m 2 (omega arith))
 
   pub condition-4 : (x : List ℕ) (h : ℕ) → h < 2
       → unforkOf (numberOf c) key tweak x h 2
-      ≡ record { number = 0; input = unforkInput c key tweak x h; other = unforkOther c key tweak x h }
+      ≡ record { number = 0; input = unforkInput c key tweak x h; other = unforkOther c key tweak x h; rounds = unforkRounds c 2 }
   unfolding wants
   condition-4 x h p = rw (back x h p, across x h p, unforks c key tweak x h 2 p (omega arith))
 

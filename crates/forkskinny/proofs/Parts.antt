@@ -15,7 +15,7 @@ use Rattle.forkskinny.specs.declared.Forked.{Forked}
 use Rattle.forkskinny.specs.declared.Unforked.{Unforked}
 use Rattle.forkskinny.specs.ForkSkinny.{sideOf, otherOf, startOf, forked, branch, unbranch, unforked, half, input, other}
 use Rattle.forkskinny.specs.Reach.{reachOf, takesFar}
-use Rattle.forkskinny.specs.Calls.{given, wants, forkBy, unforkBy}
+use Rattle.forkskinny.specs.Calls.{given, wants, forkRounds, forkBy, unforkRounds, unforkBy}
 use Rattle.forkskinny.proofs.Places.{reach-init, reach-branch, far-first, far-second}
 
 -- the keys of the first m rounds of a cipher
@@ -25,28 +25,30 @@ Keys c m t keys = RoundKeys (widthOf c) (wordsOf c) m t keys
 module _ (c : Cipher) (key tweak block : List ℕ) (want : ℕ) {first second : Bool} {m : ℕ} {t : Tweakey} {keys : List (List ℕ)}
     (e₀ : first ≡ wants 0 want) (e₁ : second ≡ wants 1 want) (et : t ≡ tk c key tweak) (known : Keys c m t keys) where
   pub fork-parts
-      : {s : State} {half0 half1 : List ℕ} {far : Bool} → m ≡ reachOf c far → far ≡ takesFar first 0 second 1
+      : {s : State} {half0 half1 : List ℕ} {far : Bool} {run : ℕ} → m ≡ reachOf c far → far ≡ takesFar first 0 second 1
       → ((t : Tweakey) → Keys c (initOf c) t keys → s ≡ forked c t block)
       → ((t : Tweakey) → (first ≡ true → Keys c (startOf c (sideOf 0) + branchOf c) t keys) → half0 ≡ given first (branch c (sideOf 0) t s))
       → ((t : Tweakey) → (second ≡ true → Keys c (startOf c (sideOf 1) + branchOf c) t keys) → half1 ≡ given second (branch c (sideOf 1) t s))
-      → _≡_ {A = Forked} (record { number = 0; half0 = half0; half1 = half1 }) (forkBy c key tweak block want)
+      → run ≡ forkRounds c want
+      → _≡_ {A = Forked} (record { number = 0; half0 = half0; half1 = half1; rounds = run }) (forkBy c key tweak block want)
   unfolding half
-  fork-parts {far = far} em ef at-fork h₀ h₁ =
+  fork-parts {far = far} em ef at-fork h₀ h₁ er =
       let k = subst (λ (m : ℕ). Keys c m t keys) em known in
       let s = at-fork t (fewer k (initOf c) (reach-init c far)) ∙ (λ i. forked c (et i) block) in
       let a = h₀ t (λ yes. fewer k _ (reach-branch c (sideOf 0) far (λ q. ef ∙ far-first first 0 second 1 yes q))) ∙ (λ i. given (e₀ i) (branch c (sideOf 0) (et i) (s i))) in
       let b = h₁ t (λ yes. fewer k _ (reach-branch c (sideOf 1) far (λ q. ef ∙ far-second first 0 second 1 yes q))) ∙ (λ i. given (e₁ i) (branch c (sideOf 1) (et i) (s i))) in
-      λ i. record { number = 0; half0 = a i; half1 = b i }
+      λ i. record { number = 0; half0 = a i; half1 = b i; rounds = er i }
 
   pub unfork-parts
-      : (from : ℕ) {far : Bool} {side : Branch} {o : ℕ} {s : State} {input′ other′ : List ℕ} → m ≡ reachOf c far → far ≡ takesFar true from second o
+      : (from : ℕ) {far : Bool} {side : Branch} {o : ℕ} {s : State} {input′ other′ : List ℕ} {run : ℕ} → m ≡ reachOf c far → far ≡ takesFar true from second o
       → side ≡ sideOf from → o ≡ otherOf from
       → ((t : Tweakey) → Keys c (startOf c side + branchOf c) t keys → s ≡ unbranch c side t block)
       → ((t : Tweakey) → Keys c (initOf c) t keys → input′ ≡ given first (unforked c t s))
       → ((t : Tweakey) → (second ≡ true → Keys c (startOf c (sideOf o) + branchOf c) t keys) → other′ ≡ given second (branch c (sideOf o) t s))
-      → _≡_ {A = Unforked} (record { number = 0; input = input′; other = other′ }) (unforkBy c key tweak block from want)
+      → run ≡ unforkRounds c want
+      → _≡_ {A = Unforked} (record { number = 0; input = input′; other = other′; rounds = run }) (unforkBy c key tweak block from want)
   unfolding input other
-  unfork-parts from {far} {side} {o} em ef es eo back h₀ h₁ =
+  unfork-parts from {far} {side} {o} em ef es eo back h₀ h₁ er =
       let k = subst (λ (m : ℕ). Keys c m t keys) em known in
       let from-keys = fewer k _ (reach-branch c (sideOf from) far (λ q. ef ∙ far-first true from second o refl q)) in
       let side-keys = subst⁻¹ (λ (b : Branch). Keys c (startOf c b + branchOf c) t keys) es from-keys in
@@ -54,4 +56,4 @@ module _ (c : Cipher) (key tweak block : List ℕ) (want : ℕ) {first second : 
       let a = h₀ t (fewer k _ (reach-init c far)) ∙ (λ i. given (e₀ i) (unforked c (et i) (s i))) in
       let other-half = h₁ t (λ yes. fewer k _ (reach-branch c (sideOf o) far (λ q. ef ∙ far-second true from second o yes q))) in
       let b = other-half ∙ (λ i. given (e₁ i) (branch c (sideOf (eo i)) (et i) (s i))) in
-      λ i. record { number = 0; input = a i; other = b i }
+      λ i. record { number = 0; input = a i; other = b i; rounds = er i }

@@ -1,13 +1,14 @@
 -- The block calls: what a caller is told, for every number (document 01, "What a caller is told"). Ciphers: 1 is 64-192,
 -- 2 is 128-256. Wanted: 0 the first result, 1 the second, 2 both; forward these are half 0 and half 1, back the input and the
--- other half. Assumes nothing.
-use Prim.Native.Nat.{ℕ}
+-- other half. The rounds that a call runs are C-13's. Assumes nothing.
+use Prim.Native.Nat.{ℕ, _+_}
 use mathlib.Core.Bool.{Bool, true, cond}
 use mathlib.Core.List.{List}
 use lib.Dec.{eqb, ltb}
 use lib.ListN.{replicate}
 use Rattle.ciphers.specs.declared.Cipher.{Cipher}
 use Rattle.ciphers.specs.declared.Cipher.the-variants.{N64T192, N128T256}
+use Rattle.ciphers.specs.Ciphers.{initOf, branchOf}
 use Rattle.forkskinny.specs.declared.Forked.{Forked}
 use Rattle.forkskinny.specs.declared.Unforked.{Unforked}
 use Rattle.forkskinny.specs.ForkSkinny.{half, input, other}
@@ -32,16 +33,25 @@ numberOf N128T256 = 2
 abbrev pub underCipher : {A : Type 0} → ℕ → (Cipher → A) → A → A
 underCipher cipher f refused = cond (eqb cipher 1) (f N64T192) (cond (eqb cipher 2) (f N128T256) refused)
 
+-- rounds that are run where something is asked for
+abbrev pub roundsIf : Bool → ℕ → ℕ
+roundsIf asked n = cond asked n 0
+
 -- ---- forward
 
+-- those before the fork, and those of each branch that is asked for (001, figure 4: enc 3, 5, 9)
+unfoldable pub forkRounds : Cipher → (want : ℕ) → ℕ
+forkRounds c want = initOf c + roundsIf (wants 0 want) (branchOf c) + roundsIf (wants 1 want) (branchOf c)
+
 abbrev pub forkRefused : Forked
-forkRefused = record { number = 1; half0 = zeros; half1 = zeros }
+forkRefused = record { number = 1; half0 = zeros; half1 = zeros; rounds = 0 }
 
 abbrev pub forkBy : Cipher → List ℕ → List ℕ → List ℕ → ℕ → Forked
 forkBy c key tweak block want = record {
   number = 0;
   half0 = given (wants 0 want) (half c key tweak 0 block);
   half1 = given (wants 1 want) (half c key tweak 1 block);
+  rounds = forkRounds c want;
 }
 
 unfoldable pub forkOf : ℕ → List ℕ → List ℕ → List ℕ → ℕ → Forked
@@ -50,14 +60,20 @@ forkOf cipher key tweak block want =
 
 -- ---- back
 
+-- those of the branch whose half is given; those before the fork, where the input is asked for; those of the other branch, where its half
+-- is (001, figure 4: dec 5 and 8, 11, 15)
+unfoldable pub unforkRounds : Cipher → (want : ℕ) → ℕ
+unforkRounds c want = branchOf c + roundsIf (wants 0 want) (initOf c) + roundsIf (wants 1 want) (branchOf c)
+
 abbrev pub unforkRefused : Unforked
-unforkRefused = record { number = 1; input = zeros; other = zeros }
+unforkRefused = record { number = 1; input = zeros; other = zeros; rounds = 0 }
 
 abbrev pub unforkBy : Cipher → List ℕ → List ℕ → List ℕ → ℕ → ℕ → Unforked
 unforkBy c key tweak block from want = record {
   number = 0;
   input = given (wants 0 want) (input c key tweak from block);
   other = given (wants 1 want) (other c key tweak from block);
+  rounds = unforkRounds c want;
 }
 
 unfoldable pub unforkOf : ℕ → List ℕ → List ℕ → List ℕ → ℕ → ℕ → Unforked

@@ -1,14 +1,14 @@
 // ForkSkinny: the fork forward and back, and the block calls.
 ghost use mathlib.Core.Path.{_≡_};
 ghost use mathlib.Core.Bool.{true};
-ghost use Prim.Native.Nat.{_+_};
+ghost use Prim.Native.Nat.{_+_, _≤_};
 ghost use Rattle.cells.specs.Cells.{Tabulates, sub, unsub};
 ghost use Rattle.schedule.specs.declared.Tweakey.{Tweakey};
 ghost use Rattle.schedule.specs.Schedule.{RoundKeys};
 ghost use Rattle.ciphers.specs.Ciphers.{widthOf, wordsOf, initOf, branchOf};
 ghost use Rattle.forkskinny.specs.ForkSkinny.{sideOf, otherOf, startOf, enter, forked, branch, unbranch, unforked};
 ghost use Rattle.forkskinny.specs.Reach.{farIf, takesFar, reachOf};
-ghost use Rattle.forkskinny.specs.Calls.{given, wants, forkRefused, forkBy, forkOf, unforkRefused, unforkBy, unforkOf};
+ghost use Rattle.forkskinny.specs.Calls.{given, wants, roundsIf, forkRounds, forkRefused, forkBy, forkOf, unforkRounds, unforkRefused, unforkBy, unforkOf};
 use ciphers::Cipher;
 
 // After the fork the near branch goes on, and the far one takes the rounds after it.
@@ -187,11 +187,29 @@ fn input_if(
     [0u8; 16]
 }
 
-// What a block call forward answers: 0 and what was asked for, or 1 and zeros.
+// So many rounds, where something is asked for.
+fn rounds_if(asked: bool, n: usize) -> usize
+    ensures { λ r. ⌜ (r ≡ roundsIf asked n) × (r ≤ n) ⌝ }
+{
+    if asked { n } else { 0 }
+}
+
+// The rounds of a call forward: those before the fork, and those of each branch that is asked for.
+pub fn fork_rounds(c: Cipher, want: u32) -> u32
+    ensures { λ r. ⌜ r ≡ forkRounds c want ⌝ }
+{
+    let n = ciphers::branch_of(c);
+    let first = rounds_if(is_wanted(0, want), n);
+    let second = rounds_if(is_wanted(1, want), n);
+    (ciphers::init_of(c) + first + second) as u32
+}
+
+// What a block call forward answers: 0, what was asked for and the rounds, or 1, zeros and no rounds.
 pub struct Forked {
     pub number: u32,
     pub half0: [u8; 16],
     pub half1: [u8; 16],
+    pub rounds: u32,
 }
 
 fn fork_refused() -> Forked
@@ -201,6 +219,7 @@ fn fork_refused() -> Forked
         number: 1,
         half0: [0u8; 16],
         half1: [0u8; 16],
+        rounds: 0,
     }
 }
 
@@ -221,6 +240,7 @@ pub fn fork_by(c: Cipher, key: [u8; 16], tweak: [u8; 16], block: [u8; 16], want:
         number: 0,
         half0,
         half1,
+        rounds: fork_rounds(c, want),
     }
 }
 
@@ -240,11 +260,23 @@ pub fn fork(cipher: u32, key: [u8; 16], tweak: [u8; 16], block: [u8; 16], want: 
     fork_refused()
 }
 
-// What a block call back answers: 0 and what was asked for, or 1 and zeros.
+// The rounds of a call back: those of the branch whose half is given, those before the fork where the input is asked for, and those of
+// the other branch where its half is.
+fn unfork_rounds(c: Cipher, want: u32) -> u32
+    ensures { λ r. ⌜ r ≡ unforkRounds c want ⌝ }
+{
+    let n = ciphers::branch_of(c);
+    let input = rounds_if(is_wanted(0, want), ciphers::init_of(c));
+    let other = rounds_if(is_wanted(1, want), n);
+    (n + input + other) as u32
+}
+
+// What a block call back answers: 0, what was asked for and the rounds, or 1, zeros and no rounds.
 pub struct Unforked {
     pub number: u32,
     pub input: [u8; 16],
     pub other: [u8; 16],
+    pub rounds: u32,
 }
 
 fn unfork_refused() -> Unforked
@@ -254,6 +286,7 @@ fn unfork_refused() -> Unforked
         number: 1,
         input: [0u8; 16],
         other: [0u8; 16],
+        rounds: 0,
     }
 }
 
@@ -283,6 +316,7 @@ pub fn unfork_by(
         number: 0,
         input,
         other,
+        rounds: unfork_rounds(c, want),
     }
 }
 

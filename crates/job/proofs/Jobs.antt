@@ -13,7 +13,7 @@ use Rattle.sealing.specs.Demands.{Admitted, SealsTo}
 use Rattle.sealing.specs.View.{viewOf}
 use Rattle.sealing.specs.Schemes.{schemeOf}
 use Rattle.sealing.specs.Checks.{checkOf}
-use Rattle.sealing.specs.Calls.{Told, told, refused, sealed, sealUnder, sealOf, openOf}
+use Rattle.sealing.specs.Calls.{Told, told, refused, sealed, sealRounds, openRounds, sealUnder, sealOf, openOf}
 use Rattle.ciphers.proofs.Laws.{block-most}
 use Rattle.sealing.proofs.Admitted.{seal-admitted}
 use Rattle.sealing.proofs.Demands.{returned}
@@ -64,7 +64,7 @@ prints-sealed number s key nonce header body room ok b l r =
     let enough : length body + blockOf (s .cipher) ≤ length room
     = omega (arith, l, m, r, w .key, ok .key-fits .long, block-most (s .cipher)) in
     ap lineFor (job-seals number key nonce header body room l ∙ seal-admitted number s key nonce header ok body room fits enough)
-    ∙ done-line (length body + blockOf (s .cipher)) (sealed s key nonce header body) room (sealed-long number s key nonce header ok body b)
+    ∙ done-line (sealRounds s key nonce header body) (length body + blockOf (s .cipher)) (sealed s key nonce header body) room (sealed-long number s key nonce header ok body b)
 
 -- an open of a run to which a body seals: the body, whatever stood in the room
 pub prints-opened
@@ -74,7 +74,7 @@ pub prints-opened
 prints-opened number s key nonce header body run room ok hr t l r =
     let enough : length run ≤ length room + blockOf (s .cipher) = omega (arith, l, r, written-length number 1 key nonce header run) in
     ap lineFor (job-opens number key nonce header run room l ∙ returned number s key nonce header ok run room hr enough body t)
-    ∙ done-line (length body) body room refl
+    ∙ done-line (openRounds s key nonce header run) (length body) body room refl
 
 -- every refusal: its number, 0 and `-`
 pub prints-refused : (job room : List ℕ) → (jobOf job room .number ≡ 0 → ⊥) → printed job room ≡ lineOf (jobOf job room .number) 0 []

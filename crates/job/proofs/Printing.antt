@@ -32,9 +32,9 @@ printed-so job room {a} e f = ap (λ (v : List ℕ). lineOf (a .number) (a .leng
 -- ---- the line of each way in which a call answers
 
 -- done: what was put at the front of the room, whatever stood there before
-pub done-line : (l : ℕ) (out room : List ℕ) → length out ≡ l → lineFor (done l out room) ≡ lineOf 0 l out
+pub done-line : (r l : ℕ) (out room : List ℕ) → length out ≡ l → lineFor (done r l out room) ≡ lineOf 0 l out
 unfolding viewOf
-done-line l out room e =
+done-line r l out room e =
     let m : l ≤ length (out ++ drop l room) = omega (arith, length-append out (drop l room)) in
     rw (le-ltb (length (out ++ drop l room)) l m, take-at out (drop l room) l e)
 

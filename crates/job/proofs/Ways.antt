@@ -15,8 +15,8 @@ use Rattle.job.proofs.Reading.{unsound}
 module _
     (P : Told → Type 0)
     (room : List ℕ)
-    (d : (l : ℕ) (out : List ℕ) → P (done l out room))
-    (f : (l : ℕ) → P (forged l room))
+    (d : (r l : ℕ) (out : List ℕ) → P (done r l out room))
+    (f : (r l : ℕ) → P (forged r l room))
     (r : (k : ℕ) → Plain k → P (refused k room))
   where
     directed-ways : (way scheme : ℕ) (key nonce header body : List ℕ) → P (directed way scheme key nonce header body room)
@@ -31,14 +31,14 @@ module _
 pub not-9 : (way scheme : ℕ) (key nonce header body room : List ℕ) → directed way scheme key nonce header body room .number ≡ 9 → ⊥
 not-9 way scheme key nonce header body room =
     directed-ways (λ (t : Told). t .number ≡ 9 → ⊥) room
-    (λ l out e. omega arith) (λ l e. omega arith) (λ k p e. p .not-9 e)
+    (λ r l out e. omega arith) (λ r l e. omega arith) (λ k p e. p .not-9 e)
     way scheme key nonce header body
 
 -- what is refused has no output
 pub no-output : (job room : List ℕ) → (jobOf job room .number ≡ 0 → ⊥) → jobOf job room .length ≡ 0
 no-output job room =
     job-ways (λ (t : Told). (t .number ≡ 0 → ⊥) → t .length ≡ 0) room
-    (λ l out h. absurd (h refl)) (λ l h. refl) (λ k p h. refl) (λ h. refl) job
+    (λ r l out h. absurd (h refl)) (λ r l h. refl) (λ k p h. refl) (λ h. refl) job
 
 -- what is not sound is answered by 9
 module _ (job room : List ℕ) where

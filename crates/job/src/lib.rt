@@ -38,6 +38,7 @@ pub fn run(job: &[u8], room: &mut [u8]) -> Answer
         return Answer {
             number: 9,
             length: 0,
+            rounds: 0,
         };
     }
     let scheme = job[0];

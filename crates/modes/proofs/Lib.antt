@@ -1,10 +1,11 @@
 pub mod Bytes
 pub mod Ends
 pub mod Exact
+pub mod Only
 pub mod PaefLaws
-pub mod PaefOnly
 pub mod PaefTweaks
 pub mod Rest
+pub mod Rounds
 pub mod SaefLaws
 pub mod Turn
 pub mod Undo

@@ -9,15 +9,16 @@ use Prim.Native.Nat.{ℕ, zero, suc, _+_, _-_, _*_, _/_, _%_, _≤_, _<_}
 use native.Mathlib.Nat.{div-lt-iff-lt-mul}
 use native.Mathlib.Omega.{arith}
 use native.Mathlib.Decide.{decLt}
-use mathlib.Core.Bool.{Bool, true, false, not, _&&_}
+use mathlib.Core.Bool.{Bool, true, false, not, _&&_, cond}
 use mathlib.Core.List.{List, [], _∷_, _++_}
 use lib.ListN.{length, take, drop, getD, length-append, List·getD-append}
 use lib.Seq.{drop-at, getD-append-add}
-use Rattle.modes.specs.Blocks.{beforeLast, none}
-use Rattle.modes.specs.Forkcipher.{Fork}
+use Rattle.modes.specs.Blocks.{beforeLast, full, none}
+use Rattle.modes.specs.Forkcipher.{Fork, Call}
 use Rattle.modes.specs.Mode.{walkFrom, walk, headed}
-use Rattle.modes.specs.Paef.{Sum, be16, paefTweak, paefHead, paefBody, sumTweak, paef}
-use Rattle.modes.specs.Tweaks.{alongFrom, along, headTweaks, bodyTweaks, paefTweaks, Distinct}
+use Rattle.modes.specs.Paef.{Sum, be16, paefTweak, paefHead, paefBody, sumTweak, sumAsks, paef}
+use Rattle.modes.specs.Rounds.{callsFrom, headCalls, bodyCalls, sealCalls}
+use Rattle.modes.specs.Tweaks.{tweaks, paefTweaks, Distinct}
 use Rattle.cells.proofs.Choice.{either}
 use Rattle.modes.proofs.Rest.{before-last-none}
 
@@ -45,9 +46,18 @@ before-few : (n l : ℕ) → zero < n → l ≤ 8191 * n → beforeLast n l < 81
 unfolding beforeLast
 before-few n l p h = div-lt-iff-lt-mul {k = n} {x = l - 1} {y = 8191} p .1 (omega arith)
 
+tweaks-append : (cs ds : List Call) → tweaks (cs ++ ds) ≡ tweaks cs ++ tweaks ds
+unfolding tweaks
+tweaks-append [] ds = refl
+tweaks-append (c ∷ cs) ds = ap (λ (ts : List (List ℕ)). c .tweak ∷ ts) (tweaks-append cs ds)
+
 module _ (nonce : List ℕ) where
+  -- the tweak of a number, with a flag between two bounds
+  abbrev Flagged : (low high number : ℕ) → List ℕ → Type 0
+  Flagged low high number t = (flag : ℕ) × (low ≤ flag) × (flag ≤ high) × (t ≡ paefTweak nonce flag number)
+
   pub record Numbered (low high : ℕ) (from : ℕ) (ts : List (List ℕ)) : Type 0 where
-    pub at : (i : ℕ) → i < length ts → (flag : ℕ) × (low ≤ flag) × (flag ≤ high) × (getD ts i [] ≡ paefTweak nonce flag (from + i))
+    pub at : (i : ℕ) → i < length ts → Flagged low high (from + i) (getD ts i [])
 
   -- numbered from 1, and at most 8,191
   abbrev Few : (low high : ℕ) → List (List ℕ) → Type 0
@@ -59,42 +69,43 @@ module _ (nonce : List ℕ) where
   few-none : (low high : ℕ) → Few low high []
   few-none low high = (numbered-none low high 1, omega arith)
 
-  numbered-more : (low high from flag : ℕ) (ts : List (List ℕ)) → low ≤ flag → flag ≤ high → Numbered low high (from + 1) ts
-      → Numbered low high from (paefTweak nonce flag from ∷ ts)
-  numbered-more low high from flag ts hl hh t = record { at = go }
+  numbered-more : (low high from : ℕ) (t : List ℕ) (ts : List (List ℕ)) → Flagged low high from t → Numbered low high (from + 1) ts
+      → Numbered low high from (t ∷ ts)
+  numbered-more low high from t ts first more = record { at = go }
     where
-      go : (i : ℕ) → i < length (paefTweak nonce flag from ∷ ts)
-          → (flag′ : ℕ) × (low ≤ flag′) × (flag′ ≤ high) × (getD (paefTweak nonce flag from ∷ ts) i [] ≡ paefTweak nonce flag′ (from + i))
-      go zero h = (flag, hl, hh, ap (paefTweak nonce flag) (omega arith))
+      go : (i : ℕ) → i < length (t ∷ ts) → Flagged low high (from + i) (getD (t ∷ ts) i [])
+      go zero h =
+          let (f, fl, fh, e) = first in
+          let n : from ≡ from + 0 = omega arith in
+          (f, fl, fh, e ∙ ap (paefTweak nonce f) n)
       go (suc i) h =
-          let (g, gl, gh, e) = t .at i (omega arith) in
+          let (f, fl, fh, e) = more .at i (omega arith) in
           let n : from + 1 + i ≡ from + suc i = omega arith in
-          (g, gl, gh, e ∙ ap (paefTweak nonce g) n)
+          (f, fl, fh, e ∙ ap (paefTweak nonce f) n)
 
-  -- along a walk whose steps count on
-  module _ (n low high : ℕ) (step : Sum → List ℕ → Sum) (flag : ℕ) (last : Bool → ℕ) (hl : low ≤ flag) (hh : flag ≤ high)
-      (ll : (f : Bool) → low ≤ last f) (lh : (f : Bool) → last f ≤ high) (counts : (s : Sum) (x : List ℕ) → step s x .number ≡ s .number + 1) where
-    abbrev T : ℕ → Sum → List ℕ
-    T f s = paefTweak nonce f (s .number)
+  -- of the calls of a walk whose steps count on
+  module _ (n low high : ℕ) (step : Sum → List ℕ → Sum) (more last : Sum → List ℕ → Call)
+      (hm : (s : Sum) (x : List ℕ) → Flagged low high (s .number) (more s x .tweak))
+      (hl : (s : Sum) (x : List ℕ) → Flagged low high (s .number) (last s x .tweak))
+      (counts : (s : Sum) (x : List ℕ) → step s x .number ≡ s .number + 1) where
+    calls-numbered : (m : ℕ) (s : Sum) (x : List ℕ) → Numbered low high (s .number) (tweaks (callsFrom n step more last m s x))
+    unfolding callsFrom tweaks
+    calls-numbered zero s x = numbered-more low high (s .number) _ [] (hl s x) (numbered-none low high (s .number + 1))
+    calls-numbered (suc m) s x =
+        numbered-more low high (s .number) _ _ (hm s (take n x))
+        (rw (← counts s (take n x)) (calls-numbered m (step s (take n x)) (drop n x)))
 
-    along-numbered : (m : ℕ) (s : Sum) (x : List ℕ) → Numbered low high (s .number) (alongFrom n step (T flag) (λ f. T (last f)) m s x)
-    unfolding alongFrom
-    along-numbered zero s x = numbered-more low high (s .number) _ [] (ll _) (lh _) (numbered-none low high (s .number + 1))
-    along-numbered (suc m) s x =
-        numbered-more low high (s .number) flag _ hl hh
-        (rw (← counts s (take n x)) (along-numbered m (step s (take n x)) (drop n x)))
+    calls-long : (m : ℕ) (s : Sum) (x : List ℕ) → length (tweaks (callsFrom n step more last m s x)) ≡ suc m
+    unfolding callsFrom tweaks
+    calls-long zero s x = refl
+    calls-long (suc m) s x = ap suc (calls-long m (step s (take n x)) (drop n x))
 
-    along-long : (m : ℕ) (s : Sum) (x : List ℕ) → length (alongFrom n step (T flag) (λ f. T (last f)) m s x) ≡ suc m
-    unfolding alongFrom
-    along-long zero s x = refl
-    along-long (suc m) s x = ap suc (along-long m (step s (take n x)) (drop n x))
-
-    along-few : (s : Sum) (x : List ℕ) → s .number ≡ 1 → zero < n → length x ≤ 8191 * n → Few low high (along n step (T flag) (λ f. T (last f)) s x)
-    unfolding along
-    along-few s x e p h =
+    calls-few : (s : Sum) (x : List ℕ) → s .number ≡ 1 → zero < n → length x ≤ 8191 * n
+        → Few low high (tweaks (callsFrom n step more last (beforeLast n (length x)) s x))
+    calls-few s x e p h =
         let m : ℕ = beforeLast n (length x) in (
-          subst (λ (k : ℕ). Numbered low high k (alongFrom n step (T flag) (λ f. T (last f)) m s x)) e (along-numbered m s x),
-          omega (arith, before-few n (length x) p h, along-long m s x),
+          subst (λ (k : ℕ). Numbered low high k (tweaks (callsFrom n step more last m s x))) e (calls-numbered m s x),
+          omega (arith, before-few n (length x) p h, calls-long m s x),
         )
 
   -- the header's, with flags up to 3, and the body's, with flags from 4 on
@@ -149,9 +160,6 @@ module _ (nonce : List ℕ) where
 
 -- ---- the tweaks of a record
 
-head-low : (f : Bool) → 0 ≤ paefHead f
-head-low f = omega arith
-
 head-high : (f : Bool) → paefHead f ≤ 3
 unfolding paefHead
 head-high true = omega arith
@@ -179,25 +187,29 @@ module _ (n : ℕ) (F : Fork) (nonce : List ℕ) (p : zero < n) where
   headed-number noM a =
       either (λ (s : Sum). s .number ≡ 1) (not noM && none (length a)) _ _ refl (walk-number (beforeLast n (length a)) noM _ a)
 
-  head-few : (noM : Bool) (header : List ℕ) → length header ≤ 8191 * n → Few nonce 0 3 (headTweaks n F nonce noM header)
-  unfolding headTweaks sumTweak paef
+  head-few : (noM : Bool) (header : List ℕ) → length header ≤ 8191 * n → Few nonce 0 3 (tweaks (headCalls n (paef n F nonce) noM header))
+  unfolding headCalls tweaks paef sumAsks sumTweak
   head-few noM header h =
-      either (Few nonce 0 3) (not noM && none (length header)) _ _ (few-none nonce 0 3)
-      (along-few nonce n 0 3 (paef n F nonce .head) 0 paefHead (omega arith) (omega arith) head-low head-high (λ s x. refl) _ header refl p h)
+      either (λ (cs : List Call). Few nonce 0 3 (tweaks cs)) (not noM && none (length header)) _ _ (few-none nonce 0 3)
+      (calls-few nonce n 0 3 (paef n F nonce .head) _ _ (λ s x. (0, omega arith, omega arith, refl))
+      (λ s x. (paefHead (full n (length x)), omega arith, head-high _, refl)) (λ s x. refl) _ header refl p h)
 
-  body-few : (noM : Bool) (header body : List ℕ) → length body ≤ 8191 * n → Few nonce 4 7 (bodyTweaks n F nonce noM header body)
-  unfolding bodyTweaks sumTweak paef
+  -- the body's, where noM says that there is none
+  body-few : (noM : Bool) (header body : List ℕ) → length body ≤ 8191 * n
+      → Few nonce 4 7 (tweaks (cond noM [] (bodyCalls n (paef n F nonce) (headed n (paef n F nonce) noM header) body)))
+  unfolding bodyCalls tweaks paef sumAsks sumTweak
   body-few noM header body h =
-      either (Few nonce 4 7) noM _ _ (few-none nonce 4 7)
-      (along-few nonce n 4 7 (paef n F nonce .next) 4 paefBody (omega arith) (omega arith) body-low body-high (λ s x. refl) _ body
-      (headed-number noM header) p h)
+      either (λ (cs : List Call). Few nonce 4 7 (tweaks cs)) noM _ _ (few-none nonce 4 7)
+      (calls-few nonce n 4 7 (paef n F nonce .next) _ _ (λ s x. (4, omega arith, omega arith, refl))
+      (λ s x. (paefBody (full n (length x)), body-low _, body-high _, refl)) (λ s x. refl) _ body (headed-number noM header) p h)
 
   pub paef-distinct : (header body : List ℕ) → length header ≤ 8191 * n → length body ≤ 8191 * n → Distinct (paefTweaks n F nonce header body)
-  unfolding paefTweaks
+  unfolding paefTweaks sealCalls
   paef-distinct header body hh hb =
-      distinct nonce _ _ (head-few (none (length body)) header hh) (body-few (none (length body)) header body hb)
+      subst Distinct (sym (tweaks-append _ _))
+      (distinct nonce _ _ (head-few (none (length body)) header hh) (body-few (none (length body)) header body hb))
 
   -- where header and body are empty there is one block
   pub paef-one : length (paefTweaks n F nonce [] []) ≡ 1
-  unfolding paefTweaks headTweaks bodyTweaks along alongFrom
+  unfolding paefTweaks sealCalls headCalls callsFrom tweaks
   paef-one = rw (before-last-none n 0 p (omega arith))

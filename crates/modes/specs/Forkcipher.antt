@@ -1,14 +1,39 @@
--- A forkcipher under one key (001, 3.1), and the laws that a mode asks of it. Assumes nothing.
+-- A forkcipher under one key (001, 3.1), a block call of it, and the laws that a mode asks of it. Assumes nothing.
 use Rattle.cells.specs.Cells.{Block}
 use mathlib.Core.Path.{_≡_}
 use Prim.Native.Nat.{ℕ}
-use mathlib.Core.List.{List}
+use mathlib.Core.List.{List, [], _∷_}
 
 -- half h of a block under a tweak; from half h the input block, and the other half
 pub record Fork : Type 0 where
   pub half : ℕ → List ℕ → List ℕ → List ℕ
   pub input : ℕ → List ℕ → List ℕ → List ℕ
   pub other : ℕ → List ℕ → List ℕ → List ℕ
+
+-- ---- a block call: what it asks for, under which tweak, of which block
+
+-- F^{T,0}(X), half 0 alone; F^{T,b}(X), both halves; F^{-1,T,0,b}(X), from half 0 the input and the other half
+pub data Want : Type 0 where
+  half0 bothHalves bothBack : Want
+
+pub record Call : Type 0 where
+  pub want : Want
+  pub tweak : List ℕ
+  pub block : List ℕ
+
+abbrev pub asks : Want → List ℕ → List ℕ → Call
+asks want tweak x = record { want = want; tweak = tweak; block = x }
+
+abbrev wanted : Fork → Want → List ℕ → List ℕ → List (List ℕ)
+wanted F half0 tweak x = F .half 0 tweak x ∷ []
+wanted F bothHalves tweak x = F .half 0 tweak x ∷ F .half 1 tweak x ∷ []
+wanted F bothBack tweak x = F .input 0 tweak x ∷ F .other 0 tweak x ∷ []
+
+-- what comes back
+abbrev pub answers : Fork → Call → List (List ℕ)
+answers F c = wanted F (c .want) (c .tweak) (c .block)
+
+-- ---- the laws
 
 -- f and g take blocks of n bytes to such blocks, and each undoes the other
 pub record Undo (n : ℕ) (f g : List ℕ → List ℕ) : Type 0 where

@@ -7,6 +7,7 @@ use mathlib.Core.List.{List, [], _++_}
 use lib.Dec.{eqb}
 use lib.ListN.{length, take, drop}
 use Rattle.modes.specs.Blocks.{beforeLast, full, none, ten, pad, same}
+use Rattle.modes.specs.Forkcipher.{Call}
 
 -- A mode under one key and nonce. St is what it carries from block to block; every block has n bytes. noM says that the body is
 -- empty, and `full` of a last block that it was not padded.
@@ -30,6 +31,14 @@ pub record Mode (St : Type 0) : Type 0 where
   pub untag : (full : Bool) → St → List ℕ → List ℕ
   -- does the last block come before those leading bytes (PAEF, SAEF), or behind them
   pub blockFirst : Bool
+  -- the one block call that each of these is worked with: a header block, the last one; a body block sealed, the last one; a block opened,
+  -- the last one. That a mode looks at no other is a theorem (proofs/Only.antt).
+  pub headAsks : St → List ℕ → Call
+  pub headLastAsks : (noM full : Bool) → St → List ℕ → Call
+  pub sealAsks : St → List ℕ → Call
+  pub sealLastAsks : (full : Bool) → St → List ℕ → Call
+  pub openAsks : St → List ℕ → Call
+  pub openLastAsks : (full : Bool) → St → List ℕ → Call
 
 -- ---- the end of a run: a block of n bytes, and r leading bytes of a second (section 2, csplit; enc 38 and 34)
 

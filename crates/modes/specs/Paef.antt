@@ -5,7 +5,7 @@ use mathlib.Core.Bool.{Bool, true, false}
 use mathlib.Core.List.{List, [], _∷_, _++_}
 use lib.ListN.{replicate}
 use Rattle.modes.specs.Blocks.{_⊕_}
-use Rattle.modes.specs.Forkcipher.{Fork}
+use Rattle.modes.specs.Forkcipher.{Fork, Want, half0, bothHalves, bothBack, Call, asks}
 use Rattle.modes.specs.Mode.{Mode}
 
 -- S, and the number i of the next block
@@ -47,6 +47,10 @@ module _ (n : ℕ) (F : Fork) (nonce : List ℕ) where
   unfoldable pub sumOther : ℕ → Sum → List ℕ → List ℕ
   sumOther flag s c = F .other 0 (sumTweak flag s) c
 
+  -- the block call that a block with a flag asks for
+  unfoldable pub sumAsks : Want → ℕ → Sum → List ℕ → Call
+  sumAsks want flag s x = asks want (sumTweak flag s) x
+
   -- S ⊕ F^{T,0}(A) (enc 8, 13, 17)
   unfoldable pub headSum : ℕ → Sum → List ℕ → List ℕ
   headSum flag s x = s .sum ⊕ sumHalf 0 flag s x
@@ -73,4 +77,13 @@ module _ (n : ℕ) (F : Fork) (nonce : List ℕ) where
     untag = λ full s c. sumOther (paefBody full) s (c ⊕ s .sum);
     -- enc 38
     blockFirst = true;
+    -- F^{T,0} (enc 8; 13 and 17; dec likewise)
+    headAsks = λ s x. sumAsks half0 0 s x;
+    headLastAsks = λ noM full s x. sumAsks half0 (paefHead full) s x;
+    -- F^{T,b} (enc 21; 36)
+    sealAsks = λ s x. sumAsks bothHalves 4 s x;
+    sealLastAsks = λ full s x. sumAsks bothHalves (paefBody full) s x;
+    -- F^{-1,T,0,b} (dec 21; 38)
+    openAsks = λ s c. sumAsks bothBack 4 s c;
+    openLastAsks = λ full s c. sumAsks bothBack (paefBody full) s (c ⊕ s .sum);
   }

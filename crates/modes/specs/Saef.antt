@@ -4,7 +4,7 @@ use mathlib.Core.Bool.{Bool, true, false}
 use mathlib.Core.List.{List, [], _∷_, _++_}
 use lib.ListN.{length, replicate}
 use Rattle.modes.specs.Blocks.{_⊕_}
-use Rattle.modes.specs.Forkcipher.{Fork}
+use Rattle.modes.specs.Forkcipher.{Fork, Want, half0, bothHalves, bothBack, Call, asks}
 use Rattle.modes.specs.Mode.{Mode}
 
 -- Δ, and whether no block was worked yet
@@ -44,6 +44,10 @@ module _ (n : ℕ) (F : Fork) (nonce : List ℕ) where
   unfoldable pub maskOther : ℕ → Mask → List ℕ → List ℕ
   maskOther flag s c = F .other 0 (maskTweak flag s) (c ⊕ s .delta)
 
+  -- the block call that a block with a flag asks for: of the masked block
+  unfoldable pub maskAsks : Want → ℕ → Mask → List ℕ → Call
+  maskAsks want flag s x = asks want (maskTweak flag s) (x ⊕ s .delta)
+
   unfoldable pub saef : Mode Mask
   saef = record {
     -- enc 6 to 19
@@ -66,4 +70,13 @@ module _ (n : ℕ) (F : Fork) (nonce : List ℕ) where
     untag = λ full s c. maskOther (saefBody full) s c;
     -- enc 34
     blockFirst = true;
+    -- F^{T,0} (enc 9; 14 and 18; dec likewise)
+    headAsks = λ s x. maskAsks half0 0 s x;
+    headLastAsks = λ noM full s x. maskAsks half0 (saefHead noM full) s x;
+    -- F^{T,b} (enc 23; 33)
+    sealAsks = λ s x. maskAsks bothHalves 1 s x;
+    sealLastAsks = λ full s x. maskAsks bothHalves (saefBody full) s x;
+    -- F^{-1,T,0,b} (dec 23; 34)
+    openAsks = λ s c. maskAsks bothBack 1 s c;
+    openLastAsks = λ full s c. maskAsks bothBack (saefBody full) s c;
   }

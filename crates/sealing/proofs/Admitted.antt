@@ -8,7 +8,7 @@ use lib.ListN.{length}
 use borrow.Author.Tests.{ltb-false, le-ltb}
 use Rattle.ciphers.specs.Ciphers.{blockOf}
 use Rattle.sealing.specs.declared.schemes.Scheme.{Scheme}
-use Rattle.sealing.specs.Calls.{done, judged, passed, sealed, opened, sealUnder, openUnder, sealOf, openOf}
+use Rattle.sealing.specs.Calls.{done, judged, passed, sealed, opened, sealRounds, openRounds, sealUnder, openUnder, sealOf, openOf}
 use Rattle.sealing.specs.Demands.{Admitted}
 use Rattle.sealing.proofs.Numbers.{says-0}
 use Rattle.sealing.proofs.Passed.{Passed, check-pass, check-passed, check-long}
@@ -28,19 +28,19 @@ module _ (number : ℕ) (s : Scheme) (key nonce header : List ℕ) (ok : Admitte
   }
 
   pub seal-admitted : (body room : List ℕ) → length body ≤ s .body → length body + n ≤ length room
-      → sealOf number key nonce header body room ≡ done (length body + n) (sealed s key nonce header body) room
+      → sealOf number key nonce header body room ≡ done (sealRounds s key nonce header body) (length body + n) (sealed s key nonce header body) room
   unfolding sealUnder
   seal-admitted body room b r =
       seal-known number s (ok .named) key nonce header body room
-      ∙ ap (λ (k : ℕ). passed k (done (length body + n) (sealed s key nonce header body) room) room)
+      ∙ ap (λ (k : ℕ). passed k (done (sealRounds s key nonce header body) (length body + n) (sealed s key nonce header body) room) room)
       (check-pass s _ _ _ _ _ _ _ (admits (length body) n (length room) b r) refl)
 
   pub open-admitted : (run room : List ℕ) → n ≤ length run → length run ≤ s .body + n → length run ≤ length room + n
-      → openOf number key nonce header run room ≡ judged (opened s key nonce header run) (length run - n) room
+      → openOf number key nonce header run room ≡ judged (openRounds s key nonce header run) (opened s key nonce header run) (length run - n) room
   unfolding openUnder
   open-admitted run room l b r =
       open-known number s (ok .named) key nonce header run room
-      ∙ ap (λ (k : ℕ). passed k (judged (opened s key nonce header run) (length run - n) room) room)
+      ∙ ap (λ (k : ℕ). passed k (judged (openRounds s key nonce header run) (opened s key nonce header run) (length run - n) room) room)
       (check-pass s _ _ _ _ _ _ _ (admits (length run - n) 0 (length room) (omega arith) (omega arith)) (le-ltb (length run) n l))
 
   -- ---- the other way round: 0 is told only where no check applied

@@ -7,13 +7,16 @@ use native.Mathlib.Omega.{arith}
 use lib.Dec.{ltb}
 use lib.ListN.{length, take, drop, replicate}
 use lib.Seq.{take-all, drop-at}
+use borrow.Author.Tests.{ltb-false}
 use Rattle.ciphers.specs.Ciphers.{blockOf}
 use Rattle.modes.specs.Mode.{Opened}
+use Rattle.steps.specs.Modes.{roundsOf}
 use Rattle.walks.specs.Walks.{RecordSealed, RecordOpened}
 use Rattle.sealing.specs.declared.schemes.Scheme.{Scheme}
 use Rattle.sealing.specs.Checks.{checkOf}
-use Rattle.sealing.specs.Calls.{Told, refused, done, forged, judged, passed, sealed, opened, sealUnder, openUnder}
-use Rattle.sealing.proofs.Passed.{not-passed}
+use Rattle.sealing.specs.Calls.{Told, refused, done, forged, judged, passed, sealed, opened, sealRounds, openRounds, sealUnder, openUnder}
+use Rattle.sealing.proofs.Passed.{check-long, not-passed}
+use Rattle.sealing.proofs.Sums.{seal-sum, open-sum}
 
 -- a check that answered k, and what is then told
 told-refused : (k k′ : ℕ) (t : Told) (room : List ℕ) → k ≡ k′ → (k ≡ 0 → ⊥) → refused k room ≡ passed k′ t room
@@ -41,15 +44,17 @@ module _ (s : Scheme) (key nonce header : List ℕ) (N : ℕ) (size : N ≡ bloc
     seal-refuses h = told-refused number _ _ room seal-check h
 
     pub seal-does : number ≡ 0 → (K new : List ℕ) → K ≡ key → RecordSealed (s .cipher) (s .kind) K nonce header body room new
-        → record { number = 0; length = length body + N; room = new } ≡ sealUnder s key nonce header body room
+        → (R : ℕ) → R ≡ roundsOf (s .kind) (s .cipher) (length header) (length body)
+        → record { number = 0; length = length body + N; room = new; rounds = R } ≡ sealUnder s key nonce header body room
     unfolding sealUnder
-    seal-does z K new k put =
+    seal-does z K new k put R counts =
         (λ i. record {
           number = 0;
           length = length body + size i;
           room = (put .said ∙ ap (λ (x : List ℕ). sealed s x nonce header body ++ drop (length body + n) room) k) i;
+          rounds = (counts ∙ sym (seal-sum s key nonce header body)) i;
         })
-        ∙ told-passed number _ (done (length body + n) (sealed s key nonce header body) room) room seal-check z
+        ∙ told-passed number _ (done (sealRounds s key nonce header body) (length body + n) (sealed s key nonce header body) room) room seal-check z
 
   -- ---- open; L is the body's length as the code has it, S whether the run is short
 
@@ -71,31 +76,46 @@ module _ (s : Scheme) (key nonce header : List ℕ) (N : ℕ) (size : N ≡ bloc
     open-refuses h = told-refused number _ _ room open-check h
 
     module _ (z : number ≡ 0) (K : List ℕ) (k : K ≡ key) (r : Bool) (mid : List ℕ)
-        (a : RecordOpened (s .cipher) (s .kind) K nonce header run room r mid) where
+        (a : RecordOpened (s .cipher) (s .kind) K nonce header run room r mid) (R : ℕ)
+        (counts : R ≡ roundsOf (s .kind) (s .cipher) (length header) L) where
+      abbrev run-rounds : ℕ
+      run-rounds = openRounds s key nonce header run
+
+      rounds-is : R ≡ run-rounds
+      rounds-is =
+          counts ∙ ap (roundsOf (s .kind) (s .cipher) (length header)) len-is
+          ∙ sym (open-sum s key nonce header run (ltb-false (length run) n (check-long s _ _ _ _ _ _ _ (sym open-check ∙ z))))
+
       opens : opened s K nonce header run ≡ opened s key nonce header run
       opens = ap (λ (x : List ℕ). opened s x nonce header run) k
 
       -- the answer by r
       by : (b : Bool) (t : Told) → r ≡ b
-          → t ≡ cond b (done l (opened s key nonce header run .body) room) (forged l room) → t ≡ openUnder s key nonce header run room
+          → t ≡ cond b (done run-rounds l (opened s key nonce header run .body) room) (forged run-rounds l room) → t ≡ openUnder s key nonce header run room
       unfolding openUnder
       by b t q f =
           f
-          ∙ ap (λ (b : Bool). cond b (done l (opened s key nonce header run .body) room) (forged l room))
+          ∙ ap (λ (b : Bool). cond b (done run-rounds l (opened s key nonce header run .body) room) (forged run-rounds l room))
           (sym q ∙ a .authentic-is ∙ ap (λ (o : Opened). o .authentic) opens)
-          ∙ told-passed number _ (judged (opened s key nonce header run) l room) room open-check z
+          ∙ told-passed number _ (judged run-rounds (opened s key nonce header run) l room) room open-check z
 
-      pub open-does : r ≡ true → record { number = 0; length = L; room = mid } ≡ openUnder s key nonce header run room
+      pub open-does : r ≡ true → record { number = 0; length = L; room = mid; rounds = R } ≡ openUnder s key nonce header run room
       open-does q =
           by true _ q
-          (λ i. record { number = 0; length = len-is i; room = (a .put .said ∙ ap (λ (o : Opened). o .body ++ drop l room) opens) i })
+          (λ i. record {
+            number = 0;
+            length = len-is i;
+            room = (a .put .said ∙ ap (λ (o : Opened). o .body ++ drop l room) opens) i;
+            rounds = rounds-is i;
+          })
 
       -- the room was cleared: behind the body's place nothing had changed
       pub open-forges : r ≡ false → (new : List ℕ) → new ≡ replicate L 0 ++ drop L mid
-          → record { number = 6; length = 0; room = new } ≡ openUnder s key nonce header run room
+          → record { number = 6; length = 0; room = new; rounds = R } ≡ openUnder s key nonce header run room
       open-forges q new put6 =
           by false _ q
-          (ap (λ (x : List ℕ). record { number = 6; length = 0; room = x })
-          (put6
+          (let left : new ≡ replicate l 0 ++ drop l room
+          = put6
           ∙ ap (λ (m : ℕ). replicate m 0 ++ drop m mid) len-is
-          ∙ ap (λ (x : List ℕ). replicate l 0 ++ x) (ap (drop l) (a .put .said) ∙ drop-at (opened s K nonce header run .body) (drop l room) l (a .put .long))))
+          ∙ ap (λ (x : List ℕ). replicate l 0 ++ x) (ap (drop l) (a .put .said) ∙ drop-at (opened s K nonce header run .body) (drop l room) l (a .put .long)) in
+          λ i. record { number = 6; length = 0; room = left i; rounds = rounds-is i })

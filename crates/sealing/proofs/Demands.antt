@@ -1,10 +1,10 @@
 -- The three demands, on the definitions that the contracts of seal, open and view cite (specs/Calls.antt, View.antt; the words
 -- `Admitted` and `SealsTo` in specs/Demands.antt). These definitions are total, so every input of every length is answered; that
 -- the calls end and answer so is what their contracts say. Assumes nothing.
-use mathlib.Core.Path.{_≡_, refl, sym, _∙_}
+use mathlib.Core.Path.{_≡_, refl, sym, ap, _∙_}
 use Prim.Native.Nat.{ℕ, _+_, _-_, _≤_, _<_}
 use native.Mathlib.Omega.{arith}
-use mathlib.Core.Logic.{_↔_}
+use mathlib.Core.Logic.{_↔_, inr}
 use mathlib.Core.Bool.{true}
 use mathlib.Core.List.{List}
 use lib.ListN.{length, take}
@@ -25,12 +25,13 @@ use Rattle.sealing.specs.declared.schemes.Scheme.{Scheme}
 use Rattle.sealing.specs.declared.schemes.Named.the-variants.{Known}
 use Rattle.sealing.specs.Schemes.{scheme1, scheme2, scheme3, schemeOf}
 use Rattle.sealing.specs.Calls.{Told, told, refused, done, forged, judged}
-use Rattle.sealing.specs.Calls.{sealed, opened, sealUnder, openUnder, sealOf, openOf}
+use Rattle.sealing.specs.Calls.{sealed, opened, sealRounds, openRounds, sealUnder, openUnder, sealOf, openOf}
 use Rattle.sealing.specs.Checks.{checkOf, sealCheck, openCheck}
 use Rattle.sealing.specs.Demands.{Admitted, SealsTo}
 use Rattle.sealing.specs.Figures.{figures, allAnswered, allStated}
 use Rattle.sealing.specs.View.{viewOf}
 use Rattle.sealing.proofs.Admitted.{seal-admitted, open-admitted}
+use Rattle.sealing.proofs.Counted.{same-rounds}
 use Rattle.sealing.proofs.Exactly.{seal-writes, seal-wrote, long, opens-iff, one-body, body-returned, none-forged, sealed-opens}
 use Rattle.sealing.proofs.Numbers.{says-6}
 use Rattle.sealing.proofs.Passed.{all-passed, not-passed}
@@ -46,7 +47,7 @@ pub seal-refused : (scheme : ℕ) (key nonce header body room : List ℕ)
     → sealOf scheme key nonce header body room ≡ refused (sealOf scheme key nonce header body room .number) room
 seal-refused scheme key nonce header body room =
     seal-ways (λ (t : Told). (t .number ≡ 0 → ⊥) → t ≡ refused (t .number) room) key nonce header scheme body room
-    (λ l out h. absurd (h refl)) (λ k p h. refl)
+    (λ r l out h. absurd (h refl)) (λ k p h. refl)
 
 -- a refused open too, other than with 6
 pub open-refused : (scheme : ℕ) (key nonce header run room : List ℕ)
@@ -55,12 +56,12 @@ pub open-refused : (scheme : ℕ) (key nonce header run room : List ℕ)
     → openOf scheme key nonce header run room ≡ refused (openOf scheme key nonce header run room .number) room
 open-refused scheme key nonce header run room =
     open-ways (λ (t : Told). (t .number ≡ 0 → ⊥) → (t .number ≡ 6 → ⊥) → t ≡ refused (t .number) room) key nonce header scheme run room
-    (λ l out h j. absurd (h refl)) (λ l h j. absurd (j refl)) (λ k p h j. refl)
+    (λ r l out h j. absurd (h refl)) (λ r l h j. absurd (j refl)) (λ k p h j. refl)
 
 -- 6 leaves zeros where a body would have been, and the rest unchanged
 pub open-forged : (scheme : ℕ) (s : Scheme) (key nonce header run room : List ℕ) → schemeOf scheme ≡ Known s
     → openOf scheme key nonce header run room .number ≡ 6
-    → openOf scheme key nonce header run room ≡ forged (length run - blockOf (s .cipher)) room
+    → openOf scheme key nonce header run room ≡ forged (openRounds s key nonce header run) (length run - blockOf (s .cipher)) room
 open-forged scheme s key nonce header run room known =
     rw (open-known scheme s known key nonce header run room) (forged-under s key nonce header run room)
 
@@ -79,7 +80,8 @@ module _ (scheme : ℕ) (s : Scheme) (key nonce header input room : List ℕ) (k
   seal-order h = seal-known scheme s known key nonce header input room ∙ not-passed _ _ room h
 
   pub seal-done : sealCheck s (length key) (length nonce) (length header) (length input) (length room) ≡ 0
-      → sealOf scheme key nonce header input room ≡ done (length input + blockOf (s .cipher)) (sealed s key nonce header input) room
+      → sealOf scheme key nonce header input room
+      ≡ done (sealRounds s key nonce header input) (length input + blockOf (s .cipher)) (sealed s key nonce header input) room
   unfolding sealUnder
   seal-done e = seal-known scheme s known key nonce header input room ∙ all-passed _ _ room e
 
@@ -89,7 +91,8 @@ module _ (scheme : ℕ) (s : Scheme) (key nonce header input room : List ℕ) (k
   open-order h = open-known scheme s known key nonce header input room ∙ not-passed _ _ room h
 
   pub open-judged : openCheck s (length key) (length nonce) (length header) (length input) (length room) ≡ 0
-      → openOf scheme key nonce header input room ≡ judged (opened s key nonce header input) (length input - blockOf (s .cipher)) room
+      → openOf scheme key nonce header input room
+      ≡ judged (openRounds s key nonce header input) (opened s key nonce header input) (length input - blockOf (s .cipher)) room
   unfolding openUnder
   open-judged e = open-known scheme s known key nonce header input room ∙ all-passed _ _ room e
 
@@ -111,39 +114,50 @@ pub same-view : (number l : ℕ) (room v w : List ℕ) → v ≡ viewOf number l
 same-view number l room v w p q = p ∙ sym q
 
 -- two opens refused with 6 under one scheme, of equal lengths and with equal room, can't be told apart
-pub same-forged : (scheme : ℕ) (key nonce header run key′ nonce′ header′ run′ room : List ℕ) → length run ≡ length run′
+pub same-forged : (scheme : ℕ) (key nonce header run key′ nonce′ header′ run′ room : List ℕ) → length header ≡ length header′ → length run ≡ length run′
     → openOf scheme key nonce header run room .number ≡ 6 → openOf scheme key′ nonce′ header′ run′ room .number ≡ 6
     → openOf scheme key nonce header run room ≡ openOf scheme key′ nonce′ header′ run′ room
-same-forged scheme key nonce header run key′ nonce′ header′ run′ room l e e′ =
+same-forged scheme key nonce header run key′ nonce′ header′ run′ room h l e e′ =
     let (s, known, _) = says-6 true scheme key nonce header run room .0 e in
-    rw (open-forged scheme s key nonce header run room known e, open-forged scheme s key′ nonce′ header′ run′ room known e′, l)
+    let f = open-forged scheme s key nonce header run room known e in
+    let f′ = open-forged scheme s key′ nonce′ header′ run′ room known e′ in
+    let same = same-rounds scheme true true key nonce header run room key′ nonce′ header′ run′ room (inr e) (inr e′) h
+    (λ s _. ap (λ (k : ℕ). k - blockOf (s .cipher)) l) in
+    let q = ap (λ (t : Told). t .rounds) (sym f) ∙ same ∙ ap (λ (t : Told). t .rounds) f′ in
+    f ∙ (λ i. forged (q i) (l i - blockOf (s .cipher)) room) ∙ sym f′
 
 -- ---- demand 2: what is computed is PAEF and SAEF over ForkSkinny as published
 
 module _ (key nonce header body room : List ℕ) where
   pub seal-1 : Admitted 1 scheme1 key nonce header → length body ≤ 65528 → length body + 8 ≤ length room
-      → sealOf 1 key nonce header body room ≡ done (length body + 8) (sealRun 8 (paef 8 (skinny N64T192 key) nonce) header body) room
+      → sealOf 1 key nonce header body room
+      ≡ done (sealRounds scheme1 key nonce header body) (length body + 8) (sealRun 8 (paef 8 (skinny N64T192 key) nonce) header body) room
   seal-1 ok b r = seal-admitted 1 scheme1 key nonce header ok body room b r
 
   pub seal-2 : Admitted 2 scheme2 key nonce header → length body ≤ 131056 → length body + 16 ≤ length room
-      → sealOf 2 key nonce header body room ≡ done (length body + 16) (sealRun 16 (paef 16 (skinny N128T256 key) nonce) header body) room
+      → sealOf 2 key nonce header body room
+      ≡ done (sealRounds scheme2 key nonce header body) (length body + 16) (sealRun 16 (paef 16 (skinny N128T256 key) nonce) header body) room
   seal-2 ok b r = seal-admitted 2 scheme2 key nonce header ok body room b r
 
   pub seal-3 : Admitted 3 scheme3 key nonce header → length body ≤ 1048576 → length body + 16 ≤ length room
-      → sealOf 3 key nonce header body room ≡ done (length body + 16) (sealRun 16 (saef 16 (skinny N128T256 key) nonce) header body) room
+      → sealOf 3 key nonce header body room
+      ≡ done (sealRounds scheme3 key nonce header body) (length body + 16) (sealRun 16 (saef 16 (skinny N128T256 key) nonce) header body) room
   seal-3 ok b r = seal-admitted 3 scheme3 key nonce header ok body room b r
 
 module _ (key nonce header run room : List ℕ) where
   pub open-1 : Admitted 1 scheme1 key nonce header → 8 ≤ length run → length run ≤ 65536 → length run ≤ length room + 8
-      → openOf 1 key nonce header run room ≡ judged (openRun 8 (paef 8 (skinny N64T192 key) nonce) header run) (length run - 8) room
+      → openOf 1 key nonce header run room
+      ≡ judged (openRounds scheme1 key nonce header run) (openRun 8 (paef 8 (skinny N64T192 key) nonce) header run) (length run - 8) room
   open-1 ok l b r = open-admitted 1 scheme1 key nonce header ok run room l b r
 
   pub open-2 : Admitted 2 scheme2 key nonce header → 16 ≤ length run → length run ≤ 131072 → length run ≤ length room + 16
-      → openOf 2 key nonce header run room ≡ judged (openRun 16 (paef 16 (skinny N128T256 key) nonce) header run) (length run - 16) room
+      → openOf 2 key nonce header run room
+      ≡ judged (openRounds scheme2 key nonce header run) (openRun 16 (paef 16 (skinny N128T256 key) nonce) header run) (length run - 16) room
   open-2 ok l b r = open-admitted 2 scheme2 key nonce header ok run room l b r
 
   pub open-3 : Admitted 3 scheme3 key nonce header → 16 ≤ length run → length run ≤ 1048592 → length run ≤ length room + 16
-      → openOf 3 key nonce header run room ≡ judged (openRun 16 (saef 16 (skinny N128T256 key) nonce) header run) (length run - 16) room
+      → openOf 3 key nonce header run room
+      ≡ judged (openRounds scheme3 key nonce header run) (openRun 16 (saef 16 (skinny N128T256 key) nonce) header run) (length run - 16) room
   open-3 ok l b r = open-admitted 3 scheme3 key nonce header ok run room l b r
 
 -- thirteen bits of number are enough for a PAEF scheme's own limits: no two blocks of one record, header and body together, have the same
@@ -168,16 +182,17 @@ module _ (c : Cipher) (key tweak m : List ℕ) (hk : Bytes key) (ht : Bytes twea
 -- ---- demand 3: under one scheme, an admitted key, nonce and header, and a room large enough
 
 module _ (number : ℕ) (s : Scheme) (key nonce header : List ℕ) (ok : Admitted number s key nonce header) where
-  -- open of what seal wrote gives back the body, in any room that takes it
+  -- open of what seal wrote gives back the body, in any room that takes it, and for as many rounds
   pub round-trip : (body room room′ : List ℕ) → Bytes body → length body ≤ s .body
       → length body + blockOf (s .cipher) ≤ length room → length body ≤ length room′
       → let t = sealOf number key nonce header body room in
-      (t .number ≡ 0) × (openOf number key nonce header (take (t .length) (t .room)) room′ ≡ done (length body) body room′)
+      (t .number ≡ 0) × (openOf number key nonce header (take (t .length) (t .room)) room′ ≡ done (t .rounds) (length body) body room′)
   round-trip = sealed-opens number s key nonce header ok
 
   -- seal answers just the published run
   pub seals-exactly : (body run room : List ℕ) → Bytes body → length body + blockOf (s .cipher) ≤ length room
-      → (sealOf number key nonce header body room ≡ done (length run) run room) ↔ SealsTo s key nonce header body run
+      → (sealOf number key nonce header body room ≡ done (sealRounds s key nonce header body) (length run) run room)
+      ↔ SealsTo s key nonce header body run
   seals-exactly body run room b r =
       (seal-wrote number s key nonce header ok body run room b, λ t. seal-writes number s key nonce header ok body run room t r)
 
@@ -196,7 +211,7 @@ module _ (number : ℕ) (s : Scheme) (key nonce header : List ℕ) (ok : Admitte
 
     -- and it is returned
     pub returned : (body : List ℕ) → SealsTo s key nonce header body run
-        → openOf number key nonce header run room ≡ done (length body) body room
+        → openOf number key nonce header run room ≡ done (openRounds s key nonce header run) (length body) body room
     returned = body-returned number s key nonce header ok run room hr enough
 
     -- every other run is refused
@@ -209,5 +224,5 @@ module _ (number : ℕ) (s : Scheme) (key nonce header : List ℕ) (ok : Admitte
     -- with 6, if it has the length of a sealed body
     pub others-forged : ((body : List ℕ) → SealsTo s key nonce header body run → ⊥)
         → blockOf (s .cipher) ≤ length run → length run ≤ s .body + blockOf (s .cipher)
-        → openOf number key nonce header run room ≡ forged (length run - blockOf (s .cipher)) room
+        → openOf number key nonce header run room ≡ forged (openRounds s key nonce header run) (length run - blockOf (s .cipher)) room
     others-forged = none-forged number s key nonce header ok run room hr enough

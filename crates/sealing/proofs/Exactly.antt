@@ -18,13 +18,14 @@ use Rattle.modes.proofs.PaefLaws.{SumOk, paef-lawful}
 use Rattle.modes.proofs.SaefLaws.{MaskOk, saef-lawful}
 use Rattle.steps.specs.declared.Kind.{Kind}
 use Rattle.steps.specs.declared.Kind.the-variants.{Paef, Saef}
-use Rattle.steps.specs.Modes.{Carried, modeOf, tailOf}
+use Rattle.steps.specs.Modes.{Carried, modeOf, tailOf, roundsOf}
 use Rattle.steps.specs.Skinny.{skinny}
 use Rattle.steps.proofs.Laws.{skinny-laws}
 use Rattle.sealing.specs.declared.schemes.Scheme.{Scheme}
-use Rattle.sealing.specs.Calls.{Told, done, forged, judged, sealed, opened, sealOf, openOf}
+use Rattle.sealing.specs.Calls.{Told, done, forged, judged, sealed, opened, sealRounds, openRounds, sealOf, openOf}
 use Rattle.sealing.specs.Demands.{Admitted, SealsTo}
 use Rattle.sealing.proofs.Admitted.{seal-admitted, open-admitted, sealed-fits, opened-fits}
+use Rattle.sealing.proofs.Sums.{seal-sum, open-sum}
 use Rattle.sealing.proofs.Table.{named-fits}
 
 -- ---- the modes obey the laws
@@ -68,17 +69,19 @@ module _ (number : ℕ) (s : Scheme) (key nonce header : List ℕ) (ok : Admitte
 
     -- a body that seals to a run is sealed to it
     pub seal-writes : (room : List ℕ) → SealsTo s key nonce header body run → length body + n ≤ length room
-        → sealOf number key nonce header body room ≡ done (length run) run room
+        → sealOf number key nonce header body room ≡ done (sealRounds s key nonce header body) (length run) run room
     seal-writes room t r =
-        seal-admitted number s key nonce header ok body room (t .body-fits) r ∙ (λ i. done (sym (long t) i) (t .published i) room)
+        seal-admitted number s key nonce header ok body room (t .body-fits) r ∙ (λ i. done (sealRounds s key nonce header body) (sym (long t) i) (t .published i) room)
 
     -- and to no other: 0 tells that body and room were within the limits, the length is the run's, and the front of the room is the run
-    pub seal-wrote : (room : List ℕ) → Bytes body → sealOf number key nonce header body room ≡ done (length run) run room
+    pub seal-wrote : (room : List ℕ) → Bytes body
+        → sealOf number key nonce header body room ≡ done (sealRounds s key nonce header body) (length run) run room
         → SealsTo s key nonce header body run
     seal-wrote room b e =
         let (h, r) = sealed-fits number s key nonce header ok body room (ap (λ (u : Told). u .number) e) in
         let y : List ℕ = sealed s key nonce header body in
-        let d : done (length body + n) y room ≡ done (length run) run room = sym (seal-admitted number s key nonce header ok body room h r) ∙ e in
+        let k : ℕ = sealRounds s key nonce header body in
+        let d : done k (length body + n) y room ≡ done k (length run) run room = sym (seal-admitted number s key nonce header ok body room h r) ∙ e in
         let l : length y ≡ length run = sealed-long body b ∙ ap (λ (u : Told). u .length) d in
         record {
           body-bytes = b;
@@ -93,14 +96,14 @@ module _ (number : ℕ) (s : Scheme) (key nonce header : List ℕ) (ok : Admitte
 
   module _ (run room : List ℕ) (hr : Bytes run) (enough : length run ≤ length room + n) where
     pub body-returned : (body : List ℕ) → SealsTo s key nonce header body run
-        → openOf number key nonce header run room ≡ done (length body) body room
+        → openOf number key nonce header run room ≡ done (openRounds s key nonce header run) (length body) body room
     body-returned body t =
         let l : length run ≡ length body + n = long body run t in
         let m : length run - n ≡ length body = omega arith in
         let o : opened s key nonce header run ≡ record { authentic = true; body = body }
         = exact n M Ok lawful header (ok .header-bytes) run body hr (omega arith) .1 (t .body-bytes, t .published) in
         open-admitted number s key nonce header ok run room (omega arith) (omega (arith, t .body-fits)) enough
-        ∙ (λ i. judged (o i) (m i) room)
+        ∙ (λ i. judged (openRounds s key nonce header run) (o i) (m i) room)
 
     pub opens-iff : (openOf number key nonce header run room .number ≡ 0) ↔ ((body : List ℕ) × SealsTo s key nonce header body run)
     opens-iff = (
@@ -115,26 +118,33 @@ module _ (number : ℕ) (s : Scheme) (key nonce header : List ℕ) (ok : Admitte
         unique n M Ok lawful header (ok .header-bytes) a b (t .body-bytes) (u .body-bytes) (t .published ∙ sym (u .published))
 
     pub none-forged : ((body : List ℕ) → SealsTo s key nonce header body run → ⊥) → n ≤ length run → length run ≤ s .body + n
-        → openOf number key nonce header run room ≡ forged (length run - n) room
+        → openOf number key nonce header run room ≡ forged (openRounds s key nonce header run) (length run - n) room
     none-forged none l h =
         let a : opened s key nonce header run .authentic ≡ false
         = refused-iff n M Ok lawful header (ok .header-bytes) run hr l .1
         (λ b hb e. none b (record { body-bytes = hb; body-fits = omega (arith, sealed-long b hb, ap length e); published = e })) in
+        let k : ℕ = openRounds s key nonce header run in
         open-admitted number s key nonce header ok run room l h enough
-        ∙ ap (λ (b : Bool). cond b (done (length run - n) (opened s key nonce header run .body) room) (forged (length run - n) room)) a
+        ∙ ap (λ (b : Bool). cond b (done k (length run - n) (opened s key nonce header run .body) room) (forged k (length run - n) room)) a
 
   -- what seal wrote, opened
   pub sealed-opens : (body room room′ : List ℕ) → Bytes body → length body ≤ s .body → length body + n ≤ length room → length body ≤ length room′
       → let t = sealOf number key nonce header body room in
-      (t .number ≡ 0) × (openOf number key nonce header (take (t .length) (t .room)) room′ ≡ done (length body) body room′)
+      (t .number ≡ 0) × (openOf number key nonce header (take (t .length) (t .room)) room′ ≡ done (t .rounds) (length body) body room′)
   sealed-opens body room room′ b h r r′ =
       let run : List ℕ = sealed s key nonce header body in
       let l : length run ≡ length body + n = sealed-long body b in
       let e = seal-admitted number s key nonce header ok body room h r in
+      let m : length run - n ≡ length body = omega arith in
+      let same-rounds : openRounds s key nonce header run ≡ sealRounds s key nonce header body
+      = open-sum s key nonce header run (omega arith)
+      ∙ ap (roundsOf (s .kind) (s .cipher) (length header)) m
+      ∙ sym (seal-sum s key nonce header body) in
       let front : take (length body + n) (run ++ drop (length body + n) room) ≡ run = take-at run (drop (length body + n) room) (length body + n) l in (
         ap (λ (u : Told). u .number) e,
         ap (λ (u : Told). openOf number key nonce header (take (u .length) (u .room)) room′) e
             ∙ ap (λ (c : List ℕ). openOf number key nonce header c room′) front
             ∙ body-returned run room′ (sealed-block body b .bytes) (omega arith) body
-            (record { body-bytes = b; body-fits = h; published = refl }),
+            (record { body-bytes = b; body-fits = h; published = refl })
+            ∙ ap (λ (k : ℕ). done k (length body) body room′) (same-rounds ∙ ap (λ (u : Told). u .rounds) (sym e)),
       )

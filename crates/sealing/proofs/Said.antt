@@ -19,7 +19,7 @@ use Rattle.sealing.specs.declared.schemes.Scheme.{Scheme}
 use Rattle.sealing.specs.declared.schemes.Named.{Named}
 use Rattle.sealing.specs.declared.schemes.Named.the-variants.{Known, Unknown}
 use Rattle.sealing.specs.Schemes.{schemeOf}
-use Rattle.sealing.specs.Calls.{Told, done, forged, passed, under, opened, sealUnder, openUnder, sealOf, openOf}
+use Rattle.sealing.specs.Calls.{Told, done, forged, passed, under, opened, openRounds, sealUnder, openUnder, sealOf, openOf}
 use Rattle.sealing.specs.Checks.{bodyIn, shortIn, moreIn, checked}
 use Rattle.sealing.specs.Numbers.{answered, Under}
 use Rattle.sealing.proofs.Passed.{check-never}
@@ -51,31 +51,29 @@ passed-number : (c : ℕ) (t : Told) (room : List ℕ) (f : Bool) → t .number 
 passed-number zero t room f e = e
 passed-number (suc c) t room f e = refl
 
-judged-number : (a : Bool) (l : ℕ) (out room : List ℕ) → cond a (done l out room) (forged l room) .number ≡ cond (not a) 6 0
-judged-number true l out room = refl
-judged-number false l out room = refl
+judged-number : (a : Bool) (r l : ℕ) (out room : List ℕ) → cond a (done r l out room) (forged r l room) .number ≡ cond (not a) 6 0
+judged-number true r l out room = refl
+judged-number false r l out room = refl
 
 -- ---- under what a number names
 
-module _ (m : Named) (f : Scheme → Told) (room : List ℕ) where
-  abbrev number : Named → ℕ
-  number m = under m f room .number
-
-  under-says : (k : ℕ) → (1 ≡ k → ⊥) → (number m ≡ k) ↔ ((s : Scheme) × (m ≡ Known s) × (f s .number ≡ k))
+-- `number` is what is told under it, and 1 where it is no scheme
+module _ (number : Named → ℕ) (one : number Unknown ≡ 1) (m : Named) where
+  pub under-says : (k : ℕ) → (1 ≡ k → ⊥) → (number m ≡ k) ↔ ((s : Scheme) × (m ≡ Known s) × (number (Known s) ≡ k))
   under-says k h = (to m, λ t. subst (λ (m : Named). number m ≡ k) (sym (t .1)) (t .2))
     where
-      to : (m : Named) → number m ≡ k → (s : Scheme) × (m ≡ Known s) × (f s .number ≡ k)
+      to : (m : Named) → number m ≡ k → (s : Scheme) × (m ≡ Known s) × (number (Known s) ≡ k)
       to (Known s) e = (s, refl, e)
-      to Unknown e = absurd (h e)
+      to Unknown e = absurd (h (sym one ∙ e))
 
-  under-1 : ((s : Scheme) → f s .number ≡ 1 → ⊥) → (number m ≡ 1) ↔ (m ≡ Unknown)
-  under-1 none = (to m, λ e. ap number e)
+  pub under-1 : ((s : Scheme) → number (Known s) ≡ 1 → ⊥) → (number m ≡ 1) ↔ (m ≡ Unknown)
+  under-1 none = (to m, λ e. ap number e ∙ one)
     where
       to : (m : Named) → number m ≡ 1 → m ≡ Unknown
       to (Known s) e = absurd (none s e)
       to Unknown e = refl
 
-under-each : (number : ℕ) (P Q : Scheme → Type 0) → ((s : Scheme) → P s ↔ Q s) → Under number P ↔ Under number Q
+pub under-each : (number : ℕ) (P Q : Scheme → Type 0) → ((s : Scheme) → P s ↔ Q s) → Under number P ↔ Under number Q
 under-each number P Q f = (λ t. (t .0, t .1, f (t .0) .0 (t .2)), λ t. (t .0, t .1, f (t .0) .1 (t .2)))
 
 -- ---- what only an open can have: a run shorter than a block, and one that is not authentic
@@ -124,10 +122,14 @@ module _ (key nonce header input room : List ℕ) where
   call-number false s = passed-number (checkIn false s) _ room false refl
   call-number true s =
       let o = opened s key nonce header input in
-      passed-number (checkIn true s) _ room (not (o .authentic)) (judged-number (o .authentic) (length input - blockOf (s .cipher)) (o .body) room)
+      passed-number (checkIn true s) _ room (not (o .authentic)) (judged-number (o .authentic) (openRounds s key nonce header input) (length input - blockOf (s .cipher)) (o .body) room)
+
+  -- under what a number names, as `answered` has it
+  abbrev told-under : (opens : Bool) → Named → ℕ
+  told-under opens m = under m (call opens) room .number
 
   by-name : (opens : Bool) (scheme : ℕ)
-      → answered opens scheme key nonce header input room .number ≡ under (schemeOf scheme) (call opens) room .number
+      → answered opens scheme key nonce header input room .number ≡ told-under opens (schemeOf scheme)
   unfolding sealOf openOf
   by-name false scheme = refl
   by-name true scheme = refl
@@ -138,13 +140,13 @@ module _ (key nonce header input room : List ℕ) where
 
     pub said : (k : ℕ) → eqb 1 k ≡ false → (Q : Scheme → Type 0) → ((s : Scheme) → (numberIn opens s ≡ k) ↔ Q s) → (answer ≡ k) ↔ Under scheme Q
     said k not-1 Q f =
-        let u = under-says (schemeOf scheme) (call opens) room k (eqb-false 1 k not-1) in
+        let u = under-says (told-under opens) refl (schemeOf scheme) k (eqb-false 1 k not-1) in
         Iff·trans (λ e. u .0 (sym (by-name opens scheme) ∙ e), λ t. by-name opens scheme ∙ u .1 t)
         (under-each scheme (λ s. call opens s .number ≡ k) Q λ s.
         (λ e. f s .0 (sym (call-number opens s) ∙ e), λ q. call-number opens s ∙ f s .1 q))
 
     pub said-1 : (answer ≡ 1) ↔ (schemeOf scheme ≡ Unknown)
     said-1 =
-        let u = under-1 (schemeOf scheme) (call opens) room λ s e.
+        let u = under-1 (told-under opens) refl (schemeOf scheme) λ s e.
         check-never s _ _ _ _ _ _ _ 1 refl (after-check (checkIn opens s) _ 1 refl refl .0 (sym (call-number opens s) ∙ e)) in
         (λ e. u .0 (sym (by-name opens scheme) ∙ e), λ t. by-name opens scheme ∙ u .1 t)

@@ -13,7 +13,7 @@ use Rattle.sealing.specs.declared.schemes.Named.{Named}
 use Rattle.sealing.specs.declared.schemes.Named.the-variants.{Known, Unknown}
 use Rattle.sealing.specs.Schemes.{schemeOf}
 use Rattle.sealing.specs.Calls.{Told, told, refused, done, forged, passed, under}
-use Rattle.sealing.specs.Calls.{sealed, opened, sealUnder, openUnder, sealOf, openOf}
+use Rattle.sealing.specs.Calls.{sealed, opened, sealRounds, openRounds, sealUnder, openUnder, sealOf, openOf}
 use Rattle.cells.proofs.Choice.{either}
 use Rattle.sealing.proofs.Passed.{Plain, plain-1, check-plain}
 
@@ -30,16 +30,16 @@ module _ (P : Told → Type 0) where
 
   module _ (key nonce header : List ℕ) where
     -- a seal is done or refused
-    seal-under-ways : (s : Scheme) (body room : List ℕ) → ((l : ℕ) (out : List ℕ) → P (done l out room))
+    seal-under-ways : (s : Scheme) (body room : List ℕ) → ((r l : ℕ) (out : List ℕ) → P (done r l out room))
         → ((k : ℕ) → Plain k → P (refused k room)) → P (sealUnder s key nonce header body room)
     unfolding sealUnder
     seal-under-ways s body room d r =
         let n = blockOf (s .cipher) in
         passed-all _ _ room
-        (d (length body + n) (sealed s key nonce header body))
+        (d (sealRounds s key nonce header body) (length body + n) (sealed s key nonce header body))
         (r _ (check-plain s (length key) (length nonce) (length header) (length body) false n (length room)))
 
-    pub seal-ways : (scheme : ℕ) (body room : List ℕ) → ((l : ℕ) (out : List ℕ) → P (done l out room))
+    pub seal-ways : (scheme : ℕ) (body room : List ℕ) → ((r l : ℕ) (out : List ℕ) → P (done r l out room))
         → ((k : ℕ) → Plain k → P (refused k room)) → P (sealOf scheme key nonce header body room)
     unfolding sealOf
     seal-ways scheme body room d r =
@@ -49,8 +49,8 @@ module _ (P : Told → Type 0) where
 
     -- an open is done, forged or refused
     open-under-ways : (s : Scheme) (run room : List ℕ)
-        → ((out : List ℕ) → P (done (length run - blockOf (s .cipher)) out room))
-        → P (forged (length run - blockOf (s .cipher)) room)
+        → ((out : List ℕ) → P (done (openRounds s key nonce header run) (length run - blockOf (s .cipher)) out room))
+        → P (forged (openRounds s key nonce header run) (length run - blockOf (s .cipher)) room)
         → ((k : ℕ) → Plain k → P (refused k room)) → P (openUnder s key nonce header run room)
     unfolding openUnder
     open-under-ways s run room d f r =
@@ -61,21 +61,24 @@ module _ (P : Told → Type 0) where
         (either P (o .authentic) _ _ (d (o .body)) f)
         (r _ (check-plain s (length key) (length nonce) (length header) l (ltb (length run) n) 0 (length room)))
 
-    pub open-ways : (scheme : ℕ) (run room : List ℕ) → ((l : ℕ) (out : List ℕ) → P (done l out room))
-        → ((l : ℕ) → P (forged l room)) → ((k : ℕ) → Plain k → P (refused k room)) → P (openOf scheme key nonce header run room)
+    pub open-ways : (scheme : ℕ) (run room : List ℕ) → ((r l : ℕ) (out : List ℕ) → P (done r l out room))
+        → ((r l : ℕ) → P (forged r l room)) → ((k : ℕ) → Plain k → P (refused k room)) → P (openOf scheme key nonce header run room)
     unfolding openOf
     open-ways scheme run room d f r =
         under-all (schemeOf scheme) (λ s. openUnder s key nonce header run room) room
-        (λ s. let l = length run - blockOf (s .cipher) in open-under-ways s run room (d l) (f l) r)
+        (λ s.
+        let k = openRounds s key nonce header run in
+        let l = length run - blockOf (s .cipher) in
+        open-under-ways s run room (d k l) (f k l) r)
         (r 1 plain-1)
 
 -- ---- what follows
 
 -- where 6 is told, a body's place holds zeros: no check answers 6
 pub forged-under : (s : Scheme) (key nonce header run room : List ℕ) → openUnder s key nonce header run room .number ≡ 6
-    → openUnder s key nonce header run room ≡ forged (length run - blockOf (s .cipher)) room
+    → openUnder s key nonce header run room ≡ forged (openRounds s key nonce header run) (length run - blockOf (s .cipher)) room
 forged-under s key nonce header run room =
-    open-under-ways (λ (t : Told). t .number ≡ 6 → t ≡ forged (length run - blockOf (s .cipher)) room) key nonce header s run room
+    open-under-ways (λ (t : Told). t .number ≡ 6 → t ≡ forged (openRounds s key nonce header run) (length run - blockOf (s .cipher)) room) key nonce header s run room
     (λ out h. absurd (omega arith))
     (λ h. refl)
     (λ k p h. absurd (p .not-6 h))
@@ -85,11 +88,11 @@ pub no-length : (scheme : ℕ) (key nonce header run room : List ℕ) → (openO
     → openOf scheme key nonce header run room .length ≡ 0
 no-length scheme key nonce header run room =
     open-ways (λ (t : Told). (t .number ≡ 0 → ⊥) → t .length ≡ 0) key nonce header scheme run room
-    (λ l out h. absurd (h refl))
-    (λ l h. refl)
+    (λ r l out h. absurd (h refl))
+    (λ r l h. refl)
     (λ k p h. refl)
 
--- what is told has the answer's number and length in it, and the room
+-- what is told has the answer's number, length and rounds in it, and the room
 pub told-same : (a b : Answer) (r q : List ℕ) (t : Told) → told a r ≡ t → told b q ≡ t → (a ≡ b) × (r ≡ q)
 told-same a b r q t p e =
-    (ap (λ (u : Told). record { number = u .number; length = u .length }) (p ∙ sym e), ap (λ (u : Told). u .room) (p ∙ sym e))
+    (ap (λ (u : Told). record { number = u .number; length = u .length; rounds = u .rounds }) (p ∙ sym e), ap (λ (u : Told). u .room) (p ∙ sym e))

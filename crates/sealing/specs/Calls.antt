@@ -1,4 +1,4 @@
--- What seal and open tell their caller, and what the room then holds, for every input (01, What a caller is told).
+-- What seal and open tell their caller, and what the room then holds, for every input (01, What a caller is told; the rounds are C-13's).
 -- Assumes nothing.
 use Prim.Native.Nat.{ℕ, zero, suc, _+_, _-_}
 use mathlib.Core.Bool.{cond}
@@ -6,7 +6,9 @@ use mathlib.Core.List.{List, _++_}
 use lib.ListN.{length, drop, replicate}
 use Rattle.ciphers.specs.Ciphers.{blockOf}
 use Rattle.modes.specs.Mode.{Opened, sealRun, openRun}
+use Rattle.modes.specs.Rounds.{sealCalls, openCalls, total}
 use Rattle.steps.specs.Modes.{modeOf}
+use Rattle.steps.specs.Skinny.{costOf}
 use Rattle.sealing.specs.declared.Answer.{Answer}
 use Rattle.sealing.specs.declared.schemes.Scheme.{Scheme}
 use Rattle.sealing.specs.declared.schemes.Named.{Named}
@@ -14,30 +16,31 @@ use Rattle.sealing.specs.declared.schemes.Named.the-variants.{Known, Unk
 use Rattle.sealing.specs.Schemes.{schemeOf}
 use Rattle.sealing.specs.Checks.{sealCheck, openCheck}
 
--- number, length and room
+-- number, length, room and rounds
 pub record Told : Type 0 where
   pub number : ℕ
   pub length : ℕ
   pub room : List ℕ
+  pub rounds : ℕ
 
 abbrev pub told : Answer → List ℕ → Told
-told a room = record { number = a .number; length = a .length; room = room }
+told a room = record { number = a .number; length = a .length; room = room; rounds = a .rounds }
 
--- 1 to 5, 7 and 8: the room unchanged
+-- 1 to 5, 7 and 8: the room unchanged, and no rounds
 abbrev pub refused : ℕ → List ℕ → Told
-refused number room = record { number = number; length = 0; room = room }
+refused number room = record { number = number; length = 0; room = room; rounds = 0 }
 
 -- 0: an output of l bytes at the front, the rest unchanged
-abbrev pub done : ℕ → List ℕ → List ℕ → Told
-done l out room = record { number = 0; length = l; room = out ++ drop l room }
+abbrev pub done : (rounds l : ℕ) → List ℕ → List ℕ → Told
+done rounds l out room = record { number = 0; length = l; room = out ++ drop l room; rounds = rounds }
 
--- 6: zeros where a body of l bytes would have been, the rest unchanged
-abbrev pub forged : ℕ → List ℕ → Told
-forged l room = record { number = 6; length = 0; room = replicate l 0 ++ drop l room }
+-- 6: zeros where a body of l bytes would have been, the rest unchanged, and the rounds of a success
+abbrev pub forged : (rounds l : ℕ) → List ℕ → Told
+forged rounds l room = record { number = 6; length = 0; room = replicate l 0 ++ drop l room; rounds = rounds }
 
 -- what an open of a body of l bytes answers where the checks passed
-abbrev pub judged : Opened → ℕ → List ℕ → Told
-judged o l room = cond (o .authentic) (done l (o .body) room) (forged l room)
+abbrev pub judged : (rounds : ℕ) → Opened → (l : ℕ) → List ℕ → Told
+judged rounds o l room = cond (o .authentic) (done rounds l (o .body) room) (forged rounds l room)
 
 -- what is done where the checks answered 0, and else the refusal
 abbrev pub passed : ℕ → Told → List ℕ → Told
@@ -57,12 +60,21 @@ sealed s key nonce header body = sealRun (blockOf (s .cipher)) (modeOf (s .kind)
 abbrev pub opened : Scheme → (key nonce header run : List ℕ) → Opened
 opened s key nonce header run = openRun (blockOf (s .cipher)) (modeOf (s .kind) (s .cipher) key nonce) header run
 
+-- the rounds of the block calls that the mode's rule makes, added up
+abbrev pub sealRounds : Scheme → (key nonce header body : List ℕ) → ℕ
+sealRounds s key nonce header body =
+    total (costOf (s .cipher)) (sealCalls (blockOf (s .cipher)) (modeOf (s .kind) (s .cipher) key nonce) header body)
+
+abbrev pub openRounds : Scheme → (key nonce header run : List ℕ) → ℕ
+openRounds s key nonce header run =
+    total (costOf (s .cipher)) (openCalls (blockOf (s .cipher)) (modeOf (s .kind) (s .cipher) key nonce) header run)
+
 -- a sealed run is a block longer than its body
 unfoldable pub sealUnder : Scheme → (key nonce header body room : List ℕ) → Told
 sealUnder s key nonce header body room =
     let n = blockOf (s .cipher) in
     passed (sealCheck s (length key) (length nonce) (length header) (length body) (length room))
-    (done (length body + n) (sealed s key nonce header body) room)
+    (done (sealRounds s key nonce header body) (length body + n) (sealed s key nonce header body) room)
     room
 
 unfoldable pub openUnder : Scheme → (key nonce header run room : List ℕ) → Told
@@ -70,7 +82,7 @@ openUnder s key nonce header run room =
     let n = blockOf (s .cipher) in
     let l = length run - n in
     passed (openCheck s (length key) (length nonce) (length header) (length run) (length room))
-    (judged (opened s key nonce header run) l room)
+    (judged (openRounds s key nonce header run) (opened s key nonce header run) l room)
     room
 
 -- ---- the calls

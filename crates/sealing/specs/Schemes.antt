@@ -27,9 +27,9 @@ unfoldable pub schemeOf : ℕ → Named
 schemeOf number =
     cond (eqb number 1) (Known scheme1) (cond (eqb number 2) (Known scheme2) (cond (eqb number 3) (Known scheme3) Unknown))
 
--- what the walks ask of a scheme: a key of sixteen bytes, a nonce that fills the tweak, limits that are numbers of 32 bits
+-- what the walks ask of a scheme: a key of sixteen bytes, a nonce that fills the tweak, limits within which the rounds are a number of 32 bits
 pub record Fits (s : Scheme) : Type 0 where
   pub key : s .key ≡ 16
   pub nonce : s .nonce + tailOf (s .kind) ≡ blockOf (s .cipher)
-  pub header : s .header ≤ 4294967279
-  pub body : s .body ≤ 4294967279
+  pub header : s .header ≤ 16777216
+  pub body : s .body ≤ 16777216

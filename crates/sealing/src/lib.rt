@@ -1,4 +1,4 @@
-// Seal, open and view.
+// Seal, open and view, and the rounds of a record by its lengths.
 pub mod checks;
 pub mod schemes;
 
@@ -8,17 +8,20 @@ use checks::check;
 use schemes::Named;
 use schemes::Scheme;
 use schemes::scheme_of;
+use walks::counting;
 use walks::records;
 ghost use mathlib.Core.Path.{_≡_};
 ghost use Prim.Native.Nat.{_-_};
 ghost use Rattle.sealing.specs.Schemes.{Fits};
+ghost use Rattle.sealing.specs.Budget.{budgetUnder, budgetOf};
 ghost use Rattle.sealing.specs.Calls.{told, sealUnder, openUnder, sealOf, openOf};
 ghost use Rattle.sealing.specs.View.{viewOf};
 
-// What a caller is told: the number, and the length of what stands at the front of the room.
+// What a caller is told: the number, the length of what stands at the front of the room, and the rounds that were run.
 pub struct Answer {
     pub number: u32,
     pub length: usize,
+    pub rounds: u32,
 }
 
 fn seal_under(
@@ -46,12 +49,18 @@ fn seal_under(
         room.len(),
     );
     if number != 0 {
-        return Answer { number, length: 0 };
+        return Answer {
+            number,
+            length: 0,
+            rounds: 0,
+        };
     }
+    let rounds = counting::rounds(c, k, header.len(), body.len());
     records::seal(c, k, front(key, 16), nonce, header, body, room);
     Answer {
         number: 0,
         length: body.len() + n,
+        rounds,
     }
 }
 
@@ -73,6 +82,7 @@ pub fn seal(
         Named::Unknown => Answer {
             number: 1,
             length: 0,
+            rounds: 0,
         },
     }
 }
@@ -114,18 +124,25 @@ fn open_under(
         room.len(),
     );
     if number != 0 {
-        return Answer { number, length: 0 };
+        return Answer {
+            number,
+            length: 0,
+            rounds: 0, // no block was looked at
+        };
     }
+    let rounds = counting::rounds(c, k, header.len(), l);
     if records::open(c, k, front(key, 16), nonce, header, sealed, room) {
         return Answer {
             number: 0,
             length: l,
+            rounds,
         };
     }
     clear(room, l);
     Answer {
         number: 6,
         length: 0,
+        rounds, // as many as if it were authentic
     }
 }
 
@@ -147,6 +164,44 @@ pub fn open(
         Named::Unknown => Answer {
             number: 1,
             length: 0,
+            rounds: 0,
+        },
+    }
+}
+
+// What a record costs: the number, and the rounds of a seal or an open.
+pub struct Budget {
+    pub number: u32,
+    pub rounds: u32,
+}
+
+fn budget_under(s: Scheme, header: usize, body: usize) -> Budget
+    requires { ⌜ Fits s ⌝ }
+    ensures { λ r. ⌜ r ≡ budgetUnder s header body ⌝ }
+{
+    let c = s.cipher;
+    let k = s.kind;
+    let number = check(s, s.key, s.nonce, header, body, false, 0, body);
+    if number != 0 {
+        return Budget { number, rounds: 0 };
+    }
+    Budget {
+        number: 0,
+        rounds: counting::rounds(c, k, header, body),
+    }
+}
+
+// The rounds of a seal of a body of this length, and of an open of its run, which is a block longer. Refused, in this order, with 1
+// (scheme), 3 (header too long) or 8 (body too long), and no rounds.
+pub fn rounds_of(scheme: u32, header: usize, body: usize) -> Budget
+    ensures { λ r. ⌜ r ≡ budgetOf scheme header body ⌝ }
+{
+    let named = scheme_of(scheme);
+    match named {
+        Named::Known(s) => budget_under(s, header, body),
+        Named::Unknown => Budget {
+            number: 1,
+            rounds: 0,
         },
     }
 }

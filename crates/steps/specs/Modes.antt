@@ -1,16 +1,19 @@
--- The modes by name, over ForkSkinny. Assumes nothing.
+-- The modes by name, over ForkSkinny, and what their blocks cost. Assumes nothing.
 use Prim.Native.Nat.{ℕ}
 use mathlib.Core.List.{List}
 use lib.ListN.{take}
 use Rattle.ciphers.specs.declared.Cipher.{Cipher}
 use Rattle.ciphers.specs.Ciphers.{blockOf}
+use Rattle.modes.specs.Forkcipher.{half0, bothHalves}
 use Rattle.modes.specs.Mode.{Mode}
 use Rattle.modes.specs.Paef.{Sum, paef}
+use Rattle.modes.specs.Rounds.{roundsBy}
 use Rattle.modes.specs.Saef.{Mask, saef}
 use Rattle.steps.specs.declared.Kind.{Kind}
 use Rattle.steps.specs.declared.Kind.the-variants.{Paef, Saef}
+use Rattle.steps.specs.declared.Prices.{Prices}
 use Rattle.steps.specs.declared.State.{State}
-use Rattle.steps.specs.Skinny.{skinny}
+use Rattle.steps.specs.Skinny.{skinny, costOf}
 
 -- what a mode carries from block to block
 abbrev pub Carried : Kind → Type 0
@@ -31,3 +34,12 @@ tailOf Saef = 1
 abbrev pub stateOf : (k : Kind) → ℕ → State → Carried k
 stateOf Paef n s = record { sum = take n (s .mask); number = s .number }
 stateOf Saef n s = record { delta = take n (s .mask); first = s .first }
+
+-- the rounds of a header block, of a body block that is not the last, and of the last one, by what they ask for
+abbrev pub pricesOf : Kind → Cipher → Prices
+pricesOf Paef c = record { head = costOf c half0; block = costOf c bothHalves; last = costOf c bothHalves }
+pricesOf Saef c = record { head = costOf c half0; block = costOf c bothHalves; last = costOf c bothHalves }
+
+-- of a record, by the lengths of header and body
+unfoldable pub roundsOf : Kind → Cipher → (header body : ℕ) → ℕ
+roundsOf k c header body = let p = pricesOf k c in roundsBy (blockOf c) (p .head) (p .block) (p .last) header body

@@ -8,7 +8,7 @@ ghost use mathlib.Core.Path.{_≡_};
 ghost use Prim.Native.Nat.{_+_, _≤_};
 ghost use lib.ListN.{length, take};
 ghost use Rattle.ciphers.specs.Ciphers.{blockOf};
-ghost use Rattle.steps.specs.Modes.{modeOf, tailOf, stateOf};
+ghost use Rattle.steps.specs.Modes.{modeOf, tailOf, stateOf, pricesOf};
 ghost use Rattle.steps.specs.Steps.{Stepped, Paired};
 
 // The modes, by name.
@@ -34,6 +34,33 @@ pub struct Step {
 pub struct Pair {
     pub first: [u8; 16],
     pub second: [u8; 16],
+}
+
+// The rounds of a header block, of a body block that is not the last, and of the last one.
+pub struct Prices {
+    pub head: u32,
+    pub block: u32,
+    pub last: u32,
+}
+
+// What the blocks of a mode cost, by the halves that they ask for.
+pub fn prices_of(c: Cipher, k: Kind) -> Prices
+    ensures { λ r. ⌜ r ≡ pricesOf k c ⌝ }
+{
+    let one = forkskinny::fork_rounds(c, 0);
+    let both = forkskinny::fork_rounds(c, 2);
+    match k {
+        Kind::Paef => Prices {
+            head: one,
+            block: both,
+            last: both,
+        },
+        Kind::Saef => Prices {
+            head: one,
+            block: both,
+            last: both,
+        },
+    }
 }
 
 // Before the header.

@@ -1,4 +1,5 @@
 mod Answered
+pub mod Counted
 mod FromHeader
 mod Going
 mod Opened

@@ -1,6 +1,7 @@
 //! The block calls (document 01, "What a caller is told"). Numbers: cipher 1
 //! is 64-192, 2 is 128-256. Forward: want 0 half 0, 1 half 1, 2 both. Back:
-//! from half 0 or 1; want 0 the input, 1 the other half, 2 both.
+//! from half 0 or 1; want 0 the input, 1 the other half, 2 both. Each tells how
+//! many rounds it has run (C-13), which is none where it is refused.
 
 use crate::cells::block_bytes;
 use crate::forkskinny::{Cipher, CIPHERS};
@@ -18,6 +19,7 @@ pub struct Fork {
     pub number: u32,
     pub half0: [u8; 16],
     pub half1: [u8; 16],
+    pub rounds: u32,
 }
 
 /// What a call back answers. What was not asked for is zero.
@@ -26,6 +28,7 @@ pub struct Unfork {
     pub number: u32,
     pub input: [u8; 16],
     pub other: [u8; 16],
+    pub rounds: u32,
 }
 
 fn find_cipher(cipher: u32) -> Option<&'static Cipher> {
@@ -55,17 +58,20 @@ pub fn fork(cipher: u32, key: &[u8; 16], tweak: &[u8; 16], block: &[u8; 16], wan
     match (find_cipher(cipher), find_choice(want)) {
         (Some(cipher), Some(wanted)) => {
             let run = tweakey_run(cipher, key, tweak);
-            let [half0, half1] = cipher.fork(&run, block, wanted);
+            let worked = cipher.fork(&run, block, wanted);
+            let [half0, half1] = worked.blocks;
             Fork {
                 number: DONE,
                 half0,
                 half1,
+                rounds: worked.rounds,
             }
         }
         _ => Fork {
             number: REFUSED,
             half0: [0; 16],
             half1: [0; 16],
+            rounds: 0,
         },
     }
 }
@@ -81,17 +87,20 @@ pub fn unfork(
     match (find_cipher(cipher), find_choice(want)) {
         (Some(cipher), Some(wanted)) if from < 2 => {
             let run = tweakey_run(cipher, key, tweak);
-            let [input, other] = cipher.unfork(&run, block, from as usize, wanted);
+            let worked = cipher.unfork(&run, block, from as usize, wanted);
+            let [input, other] = worked.blocks;
             Unfork {
                 number: DONE,
                 input,
                 other,
+                rounds: worked.rounds,
             }
         }
         _ => Unfork {
             number: REFUSED,
             input: [0; 16],
             other: [0; 16],
+            rounds: 0,
         },
     }
 }

@@ -1,14 +1,25 @@
-//! The four calls of auraski.h, of whatever library exports them under names of
+//! The five calls of auraski.h, of whatever library exports them under names of
 //! its own. One macro, so that ours and the rival are called in the same way.
-//! What it makes, and `opaque`, are the only `unsafe` of this package.
+//! What it makes, `meter` and `opaque` are the only `unsafe` of this package.
+
+/// What seal and open tell a C caller: number and length, and no rounds.
+#[derive(Clone, Copy, PartialEq, Eq, Debug)]
+pub struct Told {
+    pub number: u32,
+    pub length: usize,
+}
+
+/// What length and rounds hold before a call, so that one not written is seen.
+pub const UNWRITTEN: usize = usize::MAX;
+pub const UNCOUNTED: u32 = u32::MAX;
 
 #[macro_export]
 macro_rules! c_entries {
-    ($fork:ident, $unfork:ident, $seal:ident, $open:ident) => {
-        type Block = [u8; 16];
+    ($fork:ident, $unfork:ident, $seal:ident, $open:ident, $rounds:ident) => {
+        use $crate::entries::{Told, UNCOUNTED, UNWRITTEN};
+        use $crate::sealing::Rounds;
 
-        /// What the length holds before a call, so that one not written is seen.
-        const UNWRITTEN: usize = usize::MAX;
+        type Block = [u8; 16];
 
         extern "C" {
             fn $fork(
@@ -61,6 +72,8 @@ macro_rules! c_entries {
                 room_len: usize,
                 length: *mut usize,
             ) -> u32;
+
+            fn $rounds(scheme: u32, header_len: usize, body_len: usize, rounds: *mut u32) -> u32;
         }
 
         /// Forward. The blocks of the answer are the caller's, so that a test can
@@ -136,7 +149,7 @@ macro_rules! c_entries {
             scheme: u32,
             [key, nonce, header, text]: [&[u8]; 4],
             room: &mut [u8],
-        ) -> $crate::sealing::Answer {
+        ) -> Told {
             let mut length = UNWRITTEN;
             // Every run outlives the call and is as long as the number behind it
             // says; room and length are written by this call alone.
@@ -156,7 +169,7 @@ macro_rules! c_entries {
                     &mut length,
                 )
             };
-            $crate::sealing::Answer { number, length }
+            Told { number, length }
         }
 
         /// Seals a body into the room.
@@ -167,7 +180,7 @@ macro_rules! c_entries {
             header: &[u8],
             body: &[u8],
             room: &mut [u8],
-        ) -> $crate::sealing::Answer {
+        ) -> Told {
             answer($seal, scheme, [key, nonce, header, body], room)
         }
 
@@ -179,8 +192,16 @@ macro_rules! c_entries {
             header: &[u8],
             run: &[u8],
             room: &mut [u8],
-        ) -> $crate::sealing::Answer {
+        ) -> Told {
             answer($open, scheme, [key, nonce, header, run], room)
+        }
+
+        /// The rounds of a seal, and an open, of these lengths.
+        pub fn rounds(scheme: u32, header: usize, body: usize) -> Rounds {
+            let mut rounds = UNCOUNTED;
+            // The one pointer is to a number that this call alone writes.
+            let number = unsafe { $rounds(scheme, header, body, &mut rounds) };
+            Rounds { number, rounds }
         }
     };
 }

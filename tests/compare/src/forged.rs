@@ -13,7 +13,7 @@ pub struct LastBlock {
 }
 
 /// The run of `whole` blocks and a last one that is taken as short.
-pub fn forged_run(keyed: &Keyed, header: &[u8], whole: &[u8], last: &LastBlock) -> Vec<u8> {
+pub fn forged_run(keyed: &mut Keyed, header: &[u8], whole: &[u8], last: &LastBlock) -> Vec<u8> {
     match keyed.scheme.mode {
         Mode::Paef => forged_paef(keyed, header, whole, last),
         Mode::Saef => forged_saef(keyed, header, whole, last),
@@ -21,7 +21,7 @@ pub fn forged_run(keyed: &Keyed, header: &[u8], whole: &[u8], last: &LastBlock) 
 }
 
 /// 001, figure 5, lines 19 to 38 without the padding of line 36.
-fn forged_paef(keyed: &Keyed, header: &[u8], whole: &[u8], last: &LastBlock) -> Vec<u8> {
+fn forged_paef(keyed: &mut Keyed, header: &[u8], whole: &[u8], last: &LastBlock) -> Vec<u8> {
     let size = keyed.scheme.block_bytes;
     let mut sum = paef::header_sum(keyed, header, false);
     let mut run = Vec::new();
@@ -41,7 +41,7 @@ fn forged_paef(keyed: &Keyed, header: &[u8], whole: &[u8], last: &LastBlock) -> 
 }
 
 /// 001, figure 8, lines 21 to 34 without the padding of line 33.
-fn forged_saef(keyed: &Keyed, header: &[u8], whole: &[u8], last: &LastBlock) -> Vec<u8> {
+fn forged_saef(keyed: &mut Keyed, header: &[u8], whole: &[u8], last: &LastBlock) -> Vec<u8> {
     let mut tweaks = saef::Tweaks::new(keyed.nonce);
     let mut delta = saef::header_delta(keyed, &mut tweaks, header, false);
     let mut run = Vec::new();

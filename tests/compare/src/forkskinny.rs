@@ -75,6 +75,19 @@ fn add_branch_constant(cells: &mut Cells, width: Width) {
     }
 }
 
+/// The keys of one block call, and how many rounds it has run with them so far.
+/// Making them is no round (C-13).
+struct Running {
+    keys: RoundKeys,
+    rounds: u32,
+}
+
+/// The two blocks of an answer, and the rounds that were run for them.
+pub struct Worked {
+    pub blocks: [[u8; 16]; 2],
+    pub rounds: u32,
+}
+
 /// The rounds' keys with their constants, by place in the schedule.
 fn steps(
     keys: &RoundKeys,
@@ -89,16 +102,18 @@ fn steps(
 }
 
 #[inline(always)]
-fn run(cells: &mut Cells, width: Width, keys: &RoundKeys, rounds: Range<usize>) {
-    for (key, constant) in steps(keys, rounds) {
+fn run(cells: &mut Cells, width: Width, running: &mut Running, rounds: Range<usize>) {
+    for (key, constant) in steps(&running.keys, rounds) {
         round(cells, width, constant, key);
+        running.rounds += 1;
     }
 }
 
 #[inline(always)]
-fn run_back(cells: &mut Cells, width: Width, keys: &RoundKeys, rounds: Range<usize>) {
-    for (key, constant) in steps(keys, rounds).rev() {
+fn run_back(cells: &mut Cells, width: Width, running: &mut Running, rounds: Range<usize>) {
+    for (key, constant) in steps(&running.keys, rounds).rev() {
         round_back(cells, width, constant, key);
+        running.rounds += 1;
     }
 }
 
@@ -114,52 +129,52 @@ impl Cipher {
         start..start + self.rounds_per_branch
     }
 
-    /// The keys of every round up to the end of the branches worked in.
-    fn keys(&self, tweakey: &[u8], worked_in: [bool; 2]) -> RoundKeys {
+    /// With the keys of every round up to the end of the branches worked in, and
+    /// no round run.
+    fn start(&self, tweakey: &[u8], worked_in: [bool; 2]) -> Running {
         let last_half = if worked_in[1 - NEAR_HALF] {
             1 - NEAR_HALF
         } else {
             NEAR_HALF
         };
-        round_keys(
-            self.width,
-            self.words,
-            tweakey,
-            self.branch_rounds(last_half).end,
-        )
+        let end = self.branch_rounds(last_half).end;
+        Running {
+            keys: round_keys(self.width, self.words, tweakey, end),
+            rounds: 0,
+        }
     }
 
     /// Some rounds; the width is settled here, once, and not in every round.
-    fn forward(&self, cells: &mut Cells, keys: &RoundKeys, rounds: Range<usize>) {
+    fn forward(&self, cells: &mut Cells, running: &mut Running, rounds: Range<usize>) {
         match self.width {
-            Width::Nibble => run(cells, Width::Nibble, keys, rounds),
-            Width::Byte => run(cells, Width::Byte, keys, rounds),
+            Width::Nibble => run(cells, Width::Nibble, running, rounds),
+            Width::Byte => run(cells, Width::Byte, running, rounds),
         }
     }
 
     /// The same rounds undone, the last one first.
-    fn back(&self, cells: &mut Cells, keys: &RoundKeys, rounds: Range<usize>) {
+    fn back(&self, cells: &mut Cells, running: &mut Running, rounds: Range<usize>) {
         match self.width {
-            Width::Nibble => run_back(cells, Width::Nibble, keys, rounds),
-            Width::Byte => run_back(cells, Width::Byte, keys, rounds),
+            Width::Nibble => run_back(cells, Width::Nibble, running, rounds),
+            Width::Byte => run_back(cells, Width::Byte, running, rounds),
         }
     }
 
     /// From the state at the fork to a half: 001, figure 4, lines 4 to 10.
-    fn half_of(&self, forked: &Cells, keys: &RoundKeys, half: usize) -> Cells {
+    fn half_of(&self, forked: &Cells, running: &mut Running, half: usize) -> Cells {
         let mut cells = *forked;
         if half != NEAR_HALF {
             add_branch_constant(&mut cells, self.width);
         }
-        self.forward(&mut cells, keys, self.branch_rounds(half));
+        self.forward(&mut cells, running, self.branch_rounds(half));
         cells
     }
 
     /// From a half to the state at the fork: 001, figure 4, decryption, lines
     /// 4 to 9.
-    fn forked_of(&self, half_cells: &Cells, keys: &RoundKeys, half: usize) -> Cells {
+    fn forked_of(&self, half_cells: &Cells, running: &mut Running, half: usize) -> Cells {
         let mut cells = *half_cells;
-        self.back(&mut cells, keys, self.branch_rounds(half));
+        self.back(&mut cells, running, self.branch_rounds(half));
         if half != NEAR_HALF {
             add_branch_constant(&mut cells, self.width);
         }
@@ -168,17 +183,18 @@ impl Cipher {
 
     /// Forward. `tweakey` is key then tweak; `wanted` says which halves are
     /// asked for, and the others come back as zeros.
-    pub fn fork(&self, tweakey: &[u8], block: &[u8; 16], wanted: [bool; 2]) -> [[u8; 16]; 2] {
-        let keys = self.keys(tweakey, wanted);
+    pub fn fork(&self, tweakey: &[u8], block: &[u8; 16], wanted: [bool; 2]) -> Worked {
+        let mut running = self.start(tweakey, wanted);
         let mut forked = load(self.width, block);
-        self.forward(&mut forked, &keys, 0..self.rounds_before_fork);
-        let mut halves = [[0; 16]; 2];
-        for (half, answer) in halves.iter_mut().enumerate() {
+        self.forward(&mut forked, &mut running, 0..self.rounds_before_fork);
+        let mut blocks = [[0; 16]; 2];
+        for (half, answer) in blocks.iter_mut().enumerate() {
             if wanted[half] {
-                *answer = store(self.width, &self.half_of(&forked, &keys, half));
+                *answer = store(self.width, &self.half_of(&forked, &mut running, half));
             }
         }
-        halves
+        let rounds = running.rounds;
+        Worked { blocks, rounds }
     }
 
     /// Back from a half: the input block and the other half, zeros for what
@@ -189,21 +205,22 @@ impl Cipher {
         block: &[u8; 16],
         from: usize,
         [want_input, want_other]: [bool; 2],
-    ) -> [[u8; 16]; 2] {
+    ) -> Worked {
         let other = 1 - from;
         let mut worked_in = [want_other; 2];
         worked_in[from] = true;
-        let keys = self.keys(tweakey, worked_in);
-        let forked = self.forked_of(&load(self.width, block), &keys, from);
-        let mut answer = [[0; 16]; 2];
+        let mut running = self.start(tweakey, worked_in);
+        let forked = self.forked_of(&load(self.width, block), &mut running, from);
+        let mut blocks = [[0; 16]; 2];
         if want_input {
             let mut cells = forked;
-            self.back(&mut cells, &keys, 0..self.rounds_before_fork);
-            answer[0] = store(self.width, &cells);
+            self.back(&mut cells, &mut running, 0..self.rounds_before_fork);
+            blocks[0] = store(self.width, &cells);
         }
         if want_other {
-            answer[1] = store(self.width, &self.half_of(&forked, &keys, other));
+            blocks[1] = store(self.width, &self.half_of(&forked, &mut running, other));
         }
-        answer
+        let rounds = running.rounds;
+        Worked { blocks, rounds }
     }
 }

@@ -4,8 +4,8 @@
 //! flat arrays of cells; it shares no line with the library.
 //!
 //! Documents are named as in the comments: "document 01" is the scope paper,
-//! "001" is the paper Forkcipher (extended version), and "C-11" and "C-12" are
-//! the requests of those names in document 02.
+//! "001" is the paper Forkcipher (extended version), and "C-11", "C-12" and
+//! "C-13" are the requests of those names in document 02.
 
 pub mod blocks;
 pub mod calls;
@@ -21,8 +21,11 @@ pub mod rounds;
 pub mod saef;
 pub mod schemes;
 pub mod sealing;
+pub mod second;
 pub mod skinny;
 pub mod tweakey;
 
 #[cfg(feature = "library")]
 pub mod auraski;
+#[cfg(feature = "meter")]
+pub mod meter;

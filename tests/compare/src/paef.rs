@@ -38,7 +38,7 @@ pub fn make_tweak(nonce: &[u8], flag: u16, number: u16) -> Block {
 }
 
 /// S after the header: lines 4 to 18.
-pub fn header_sum(keyed: &Keyed, header: &[u8], body_is_empty: bool) -> Block {
+pub fn header_sum(keyed: &mut Keyed, header: &[u8], body_is_empty: bool) -> Block {
     let size = keyed.scheme.block_bytes;
     let (whole, last) = split_last(header, size);
     let mut sum = [0; 16];
@@ -57,7 +57,7 @@ pub fn header_sum(keyed: &Keyed, header: &[u8], body_is_empty: bool) -> Block {
 }
 
 /// Lines 19 to 38. The room is a block longer than the body.
-pub fn seal(keyed: &Keyed, header: &[u8], body: &[u8], room: &mut [u8]) {
+pub fn seal(keyed: &mut Keyed, header: &[u8], body: &[u8], room: &mut [u8]) {
     let size = keyed.scheme.block_bytes;
     let mut sum = header_sum(keyed, header, body.is_empty());
     let (whole, last) = split_last(body, size);
@@ -84,7 +84,7 @@ pub fn seal(keyed: &Keyed, header: &[u8], body: &[u8], room: &mut [u8]) {
 /// The opening (D), lines 19 to 42: whether the run is authentic. Then, and
 /// only then, the room, which is a block shorter than the run, is the body.
 /// Lines 37 and 38 both add S; the sealing adds it once, and that decides.
-pub fn open(keyed: &Keyed, header: &[u8], run: &[u8], room: &mut [u8]) -> bool {
+pub fn open(keyed: &mut Keyed, header: &[u8], run: &[u8], room: &mut [u8]) -> bool {
     let size = keyed.scheme.block_bytes;
     let mut sum = header_sum(keyed, header, run.len() == size);
     let (whole, last, tag) = split_sealed(run, size);

@@ -3,10 +3,9 @@
 
 use crate::random::Random;
 use crate::schemes::Scheme;
-use crate::sealing::Answer;
 
-/// Seal or open, of any side.
-pub type Sealing = fn(u32, &[u8], &[u8], &[u8], &[u8], &mut [u8]) -> Answer;
+/// Seal or open, of any side; some tell rounds and some don't.
+pub type Sealing<A> = fn(u32, &[u8], &[u8], &[u8], &[u8], &mut [u8]) -> A;
 
 /// Bytes of room behind an output, where no other room is asked for.
 pub const SPARE: usize = 3;
@@ -87,7 +86,7 @@ impl Call {
     }
 
     /// Made by one side's seal or open, in the front of a room.
-    pub fn make(&self, [seal, open]: [Sealing; 2], room: &mut [u8]) -> Answer {
+    pub fn make<A>(&self, [seal, open]: [Sealing<A>; 2], room: &mut [u8]) -> A {
         let function = match self.direction {
             Direction::Seal => seal,
             Direction::Open => open,

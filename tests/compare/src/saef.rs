@@ -50,7 +50,7 @@ impl Tweaks {
 
 /// Delta after the header: lines 6 to 20.
 pub fn header_delta(
-    keyed: &Keyed,
+    keyed: &mut Keyed,
     tweaks: &mut Tweaks,
     header: &[u8],
     body_is_empty: bool,
@@ -70,7 +70,7 @@ pub fn header_delta(
 }
 
 /// Lines 21 to 34. The room is a block longer than the body.
-pub fn seal(keyed: &Keyed, header: &[u8], body: &[u8], room: &mut [u8]) {
+pub fn seal(keyed: &mut Keyed, header: &[u8], body: &[u8], room: &mut [u8]) {
     let size = keyed.scheme.block_bytes;
     let mut tweaks = Tweaks::new(keyed.nonce);
     let mut delta = header_delta(keyed, &mut tweaks, header, body.is_empty());
@@ -95,7 +95,7 @@ pub fn seal(keyed: &Keyed, header: &[u8], body: &[u8], room: &mut [u8]) {
 
 /// The opening (D), lines 21 to 38: whether the run is authentic. Then, and
 /// only then, the room, which is a block shorter than the run, is the body.
-pub fn open(keyed: &Keyed, header: &[u8], run: &[u8], room: &mut [u8]) -> bool {
+pub fn open(keyed: &mut Keyed, header: &[u8], run: &[u8], room: &mut [u8]) -> bool {
     let size = keyed.scheme.block_bytes;
     let mut tweaks = Tweaks::new(keyed.nonce);
     let mut delta = header_delta(keyed, &mut tweaks, header, run.len() == size);

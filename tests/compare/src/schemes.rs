@@ -66,29 +66,44 @@ impl Scheme {
     }
 }
 
-/// What every block of one call shares. The nonce has the scheme's length.
-#[derive(Clone, Copy)]
+/// What every block of one call shares, and how many rounds its blocks have run
+/// so far. The nonce has the scheme's length.
 pub struct Keyed<'a> {
     pub scheme: &'static Scheme,
     pub key: &'a [u8; KEY_BYTES],
     pub nonce: &'a [u8],
+    pub rounds: u32,
 }
 
-impl Keyed<'_> {
+impl<'a> Keyed<'a> {
+    /// Before its first block.
+    pub fn new(scheme: &'static Scheme, key: &'a [u8; KEY_BYTES], nonce: &'a [u8]) -> Keyed<'a> {
+        Keyed {
+            scheme,
+            key,
+            nonce,
+            rounds: 0,
+        }
+    }
+
     /// 001's F with selector 0.
-    pub fn half0(&self, tweak: &Block, block: &Block) -> Block {
-        fork(self.scheme.cipher, self.key, tweak, block, 0).half0
+    pub fn half0(&mut self, tweak: &Block, block: &Block) -> Block {
+        let answer = fork(self.scheme.cipher, self.key, tweak, block, 0);
+        self.rounds += answer.rounds;
+        answer.half0
     }
 
     /// 001's F with selector b: both halves.
-    pub fn both(&self, tweak: &Block, block: &Block) -> (Block, Block) {
+    pub fn both(&mut self, tweak: &Block, block: &Block) -> (Block, Block) {
         let answer = fork(self.scheme.cipher, self.key, tweak, block, 2);
+        self.rounds += answer.rounds;
         (answer.half0, answer.half1)
     }
 
     /// 001's inverse F from half 0 with selector b: the input and half 1.
-    pub fn back(&self, tweak: &Block, half0: &Block) -> (Block, Block) {
+    pub fn back(&mut self, tweak: &Block, half0: &Block) -> (Block, Block) {
         let answer = unfork(self.scheme.cipher, self.key, tweak, half0, 0, 2);
+        self.rounds += answer.rounds;
         (answer.input, answer.other)
     }
 }

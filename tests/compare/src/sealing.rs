@@ -1,8 +1,8 @@
 //! Seal, open and view (document 01, "What a caller is told", with the
-//! refusals of C-11 and the limits of C-12). The first check that applies
-//! answers.
+//! refusals of C-11, the limits of C-12 and the rounds of C-13). The first
+//! check that applies answers.
 
-use crate::schemes::{Keyed, Mode, Scheme};
+use crate::schemes::{Keyed, Mode, Scheme, KEY_BYTES};
 use crate::{paef, saef};
 
 pub const DONE: u32 = 0;
@@ -37,21 +37,36 @@ pub fn first_of(applying: &[u32]) -> u32 {
     REFUSALS.into_iter().find(applies).unwrap_or(DONE)
 }
 
-/// The length is 0 after every refusal.
+/// The length is 0 after every refusal. The rounds are those that were run.
 #[derive(Clone, Copy, PartialEq, Eq, Debug)]
 pub struct Answer {
     pub number: u32,
     pub length: usize,
+    pub rounds: u32,
 }
 
-/// An output's length, or the number of a refusal.
-fn answer_of(outcome: Result<usize, u32>) -> Answer {
-    match outcome {
-        Ok(length) => Answer {
-            number: DONE,
-            length,
-        },
-        Err(number) => Answer { number, length: 0 },
+/// The rounds of lengths, 0 if they are refused.
+#[derive(Clone, Copy, PartialEq, Eq, Debug)]
+pub struct Rounds {
+    pub number: u32,
+    pub rounds: u32,
+}
+
+/// Makes a call once scheme, key and nonce are found; it gives its output's
+/// length or the number of a refusal. That only 6 of all refusals has run
+/// rounds is no rule here: the others come before the first block.
+fn answer_of(
+    found: Result<Keyed, u32>,
+    call: impl FnOnce(&mut Keyed) -> Result<usize, u32>,
+) -> Answer {
+    let (outcome, rounds) = match found {
+        Ok(mut keyed) => (call(&mut keyed), keyed.rounds),
+        Err(number) => (Err(number), 0),
+    };
+    Answer {
+        number: outcome.err().unwrap_or(DONE),
+        length: outcome.unwrap_or(0),
+        rounds,
     }
 }
 
@@ -68,14 +83,18 @@ fn find<'a>(scheme: u32, key: &'a [u8], nonce: &'a [u8]) -> Result<Keyed<'a>, u3
     let scheme = Scheme::find(scheme).ok_or(UNKNOWN_SCHEME)?;
     let key = key.try_into().map_err(|_| WRONG_KEY_LENGTH)?;
     refuse_if(nonce.len() != scheme.nonce_bytes, WRONG_NONCE_LENGTH)?;
-    Ok(Keyed { scheme, key, nonce })
+    Ok(Keyed::new(scheme, key, nonce))
 }
 
-fn try_seal(keyed: &Keyed, header: &[u8], body: &[u8], room: &mut [u8]) -> Result<usize, u32> {
+/// Refusals 3 and 8.
+fn judge_lengths(scheme: &Scheme, header: usize, body: usize) -> Result<(), u32> {
+    refuse_if(header > scheme.most_bytes(), HEADER_TOO_LONG)?;
+    refuse_if(body > scheme.most_bytes(), BODY_TOO_LONG)
+}
+
+fn try_seal(keyed: &mut Keyed, header: &[u8], body: &[u8], room: &mut [u8]) -> Result<usize, u32> {
     let scheme = keyed.scheme;
-    let most = scheme.most_bytes();
-    refuse_if(header.len() > most, HEADER_TOO_LONG)?;
-    refuse_if(body.len() > most, BODY_TOO_LONG)?;
+    judge_lengths(scheme, header.len(), body.len())?;
     let length = body.len() + scheme.block_bytes;
     let output = room.get_mut(..length).ok_or(SHORT_ROOM)?;
     match scheme.mode {
@@ -85,14 +104,12 @@ fn try_seal(keyed: &Keyed, header: &[u8], body: &[u8], room: &mut [u8]) -> Resul
     Ok(length)
 }
 
-/// A run shorter than a block has no body to judge by 8, so that 4 may come
-/// first.
-fn try_open(keyed: &Keyed, header: &[u8], run: &[u8], room: &mut [u8]) -> Result<usize, u32> {
+/// A run shorter than a block has no body that 8 could judge.
+fn try_open(keyed: &mut Keyed, header: &[u8], run: &[u8], room: &mut [u8]) -> Result<usize, u32> {
     let scheme = keyed.scheme;
-    let most = scheme.most_bytes();
-    refuse_if(header.len() > most, HEADER_TOO_LONG)?;
-    let length = run.len().checked_sub(scheme.block_bytes).ok_or(NO_BLOCK)?;
-    refuse_if(length > most, BODY_TOO_LONG)?;
+    let length = run.len().checked_sub(scheme.block_bytes);
+    judge_lengths(scheme, header.len(), length.unwrap_or(0))?;
+    let length = length.ok_or(NO_BLOCK)?;
     let output = room.get_mut(..length).ok_or(SHORT_ROOM)?;
     let authentic = match scheme.mode {
         Mode::Paef => paef::open(keyed, header, run, output),
@@ -116,7 +133,7 @@ pub fn seal(
     room: &mut [u8],
 ) -> Answer {
     let found = find(scheme, key, nonce);
-    answer_of(found.and_then(|keyed| try_seal(&keyed, header, body, room)))
+    answer_of(found, |keyed| try_seal(keyed, header, body, room))
 }
 
 /// Opens a sealed run into the front of the room.
@@ -129,7 +146,29 @@ pub fn open(
     room: &mut [u8],
 ) -> Answer {
     let found = find(scheme, key, nonce);
-    answer_of(found.and_then(|keyed| try_open(&keyed, header, run, room)))
+    answer_of(found, |keyed| try_open(keyed, header, run, room))
+}
+
+/// Seals zeros of these lengths under a key and a nonce of zeros, and counts.
+fn count(scheme: u32, header: usize, body: usize) -> Result<u32, u32> {
+    let row = Scheme::find(scheme).ok_or(UNKNOWN_SCHEME)?;
+    judge_lengths(row, header, body)?;
+    let [nonce, header, body] = [row.nonce_bytes, header, body].map(|length| vec![0; length]);
+    let mut room = vec![0; body.len() + row.block_bytes];
+    let answer = seal(scheme, &[0; KEY_BYTES], &nonce, &header, &body, &mut room);
+    Ok(answer.rounds)
+}
+
+/// How many rounds a seal of these lengths runs, and an open of its run.
+/// Refused with 1, 3 or 8, in this order, as the seal would be.
+pub fn rounds(scheme: u32, header: usize, body: usize) -> Rounds {
+    match count(scheme, header, body) {
+        Ok(rounds) => Rounds {
+            number: DONE,
+            rounds,
+        },
+        Err(number) => Rounds { number, rounds: 0 },
+    }
 }
 
 /// The part of the room that an answer speaks of; empty after a refusal, and

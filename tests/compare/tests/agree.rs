@@ -1,9 +1,10 @@
-//! The library, through its C entry points, against the second program: every
-//! number and every byte of both result blocks.
+//! The library, through its C entry points, and the meter, which tells rounds
+//! too, against the second program: every number, every byte of both result
+//! blocks, and the rounds.
 
-use compare::calls::{fork, unfork, Fork, Unfork};
+use compare::calls::{fork, unfork, DONE};
 use compare::random::Random;
-use compare::{auraski, calls};
+use compare::{auraski, meter};
 use std::collections::BTreeMap;
 
 type Block = [u8; 16];
@@ -44,36 +45,31 @@ fn every_kind() -> Vec<Kind> {
     kinds
 }
 
-/// Compares one call both ways. The library's result blocks are filled before
-/// it, the one with a byte and the other with that byte's complement.
-fn compare(kind: Kind, [key, tweak, block]: &[Block; 3], filling: u8) {
-    let (mut first, mut second) = ([filling; 16], [!filling; 16]);
+/// Compares one call of all three, and gives its result blocks. Those of library
+/// and meter are filled before it, the one with a byte and the other with that
+/// byte's complement.
+fn compare(kind: Kind, [key, tweak, block]: &[Block; 3], filling: u8) -> [Block; 2] {
+    let before = [[filling; 16], [!filling; 16]];
+    let [mut first, mut second] = before;
     let room = [&mut first, &mut second];
-    match kind {
+    let (number, expected) = match kind {
         Kind::Forward { cipher, want } => {
+            let answer = fork(cipher, key, tweak, block, want);
+            let metered = meter::fork(cipher, key, tweak, block, want, before);
+            assert_eq!(metered, answer, "{:?}", kind);
             let number = auraski::fork(cipher, key, tweak, block, want, room);
-            let library = Fork {
-                number,
-                half0: first,
-                half1: second,
-            };
-            assert_eq!(library, fork(cipher, key, tweak, block, want), "{:?}", kind);
+            (number, (answer.number, answer.half0, answer.half1))
         }
         Kind::Back { cipher, from, want } => {
+            let answer = unfork(cipher, key, tweak, block, from, want);
+            let metered = meter::unfork(cipher, key, tweak, block, from, want, before);
+            assert_eq!(metered, answer, "{:?}", kind);
             let number = auraski::unfork(cipher, key, tweak, block, from, want, room);
-            let library = Unfork {
-                number,
-                input: first,
-                other: second,
-            };
-            assert_eq!(
-                library,
-                unfork(cipher, key, tweak, block, from, want),
-                "{:?}",
-                kind
-            );
+            (number, (answer.number, answer.input, answer.other))
         }
-    }
+    };
+    assert_eq!((number, first, second), expected, "{:?}", kind);
+    [first, second]
 }
 
 #[test]
@@ -152,13 +148,12 @@ fn each_undoes_the_other() {
     let mut random = Random::new(2026);
     for cipher in 1..=2 {
         for from in 0..2 {
-            let (key, tweak, block) = (random.block(), random.block(), random.block());
-            let mut halves = [[0; 16]; 2];
-            let [half0, half1] = &mut halves;
-            auraski::fork(cipher, &key, &tweak, &block, 2, [half0, half1]);
-            let back = unfork(cipher, &key, &tweak, &halves[from], from as u32, 2);
+            let inputs = [random.block(), random.block(), random.block()];
+            let halves = compare(Kind::Forward { cipher, want: 2 }, &inputs, 0xc3);
+            let [key, tweak, block] = &inputs;
+            let back = unfork(cipher, key, tweak, &halves[from], from as u32, 2);
             let counted = if cipher == 1 { 8 } else { 16 };
-            assert_eq!(back.number, calls::DONE);
+            assert_eq!(back.number, DONE);
             assert_eq!(back.input[..counted], block[..counted]);
             assert_eq!(back.other, halves[1 - from]);
         }

@@ -1,5 +1,6 @@
 //! The second program against itself, on random inputs: 001, section 3.1, the
-//! four correctness conditions, and what document 01 says of the block calls.
+//! four correctness conditions, what document 01 says of the block calls and
+//! what C-13 says of their rounds.
 
 use compare::calls::{fork, unfork, Fork, Unfork, DONE, REFUSED};
 use compare::cells::{load, store, Cells, Width};
@@ -29,6 +30,15 @@ fn counted_part(cipher: u32, block: &Block) -> Block {
     part
 }
 
+/// C-13's figures: the rounds of one half, of both, and of the other half alone
+/// on the way back.
+fn figures(cipher: u32) -> [u32; 3] {
+    match cipher {
+        1 => [40, 63, 46],
+        _ => [48, 75, 54],
+    }
+}
+
 /// Runs a check on many random (key, tweak, block) under both ciphers.
 fn for_random_inputs(seed: u64, check: impl Fn(u32, &Block, &Block, &Block)) {
     let mut random = Random::new(seed);
@@ -49,14 +59,17 @@ fn parameters(cipher: u32) -> (Width, usize, usize, usize, Cells) {
 }
 
 /// 001, figure 4, encryption, line by line, over the whole schedule: the near
-/// rounds go straight on, the far ones start r_0 later with BC added.
+/// rounds go straight on, the far ones start r_0 later with BC added. Counted
+/// here too, the rounds are as many.
 #[test]
 fn halves_are_those_of_figure_4() {
     for_random_inputs(8, |cipher, key, tweak, block| {
         let (width, words, init, branch, constant) = parameters(cipher);
         let keys = round_keys(width, words, &[*key, *tweak].concat(), MOST_ROUNDS);
-        let run = |cells: &mut Cells, rounds: std::ops::Range<usize>| {
+        let mut counted = 0;
+        let mut run = |cells: &mut Cells, rounds: std::ops::Range<usize>| {
             for place in rounds {
+                counted += 1;
                 let constant = RoundConstant {
                     number: ROUND_NUMBERS[place],
                     extra: 2,
@@ -78,7 +91,8 @@ fn halves_are_those_of_figure_4() {
             Fork {
                 number: DONE,
                 half0,
-                half1
+                half1,
+                rounds: counted,
             }
         );
     });
@@ -101,11 +115,14 @@ fn back_from_each_half_gives_the_input_and_the_other_half() {
 #[test]
 fn one_half_is_that_half_of_both() {
     for_random_inputs(4, |cipher, key, tweak, block| {
+        let [rounds, both_rounds, _] = figures(cipher);
         let both = fork(cipher, key, tweak, block, 2);
+        assert_eq!(both.rounds, both_rounds);
         assert_eq!(
             fork(cipher, key, tweak, block, 0),
             Fork {
                 half1: ZERO,
+                rounds,
                 ..both
             }
         );
@@ -113,25 +130,34 @@ fn one_half_is_that_half_of_both() {
             fork(cipher, key, tweak, block, 1),
             Fork {
                 half0: ZERO,
+                rounds,
                 ..both
             }
         );
         assert_ne!(both.half0, both.half1);
+    });
+}
+
+#[test]
+fn one_result_back_is_that_of_both() {
+    for_random_inputs(9, |cipher, key, tweak, block| {
+        let [input_rounds, both_rounds, other_rounds] = figures(cipher);
         for from in 0..2 {
             let both = unfork(cipher, key, tweak, block, from, 2);
-            let input = unfork(cipher, key, tweak, block, from, 0);
-            let other = unfork(cipher, key, tweak, block, from, 1);
+            assert_eq!(both.rounds, both_rounds);
             assert_eq!(
-                input,
+                unfork(cipher, key, tweak, block, from, 0),
                 Unfork {
                     other: ZERO,
+                    rounds: input_rounds,
                     ..both
                 }
             );
             assert_eq!(
-                other,
+                unfork(cipher, key, tweak, block, from, 1),
                 Unfork {
                     input: ZERO,
+                    rounds: other_rounds,
                     ..both
                 }
             );
@@ -216,6 +242,7 @@ fn unknown_numbers_are_refused_with_zeros() {
         number: REFUSED,
         half0: ZERO,
         half1: ZERO,
+        rounds: 0,
     };
     for (cipher, want) in [(0, 0), (3, 0), (u32::MAX, 2), (1, 3), (2, u32::MAX), (9, 9)] {
         assert_eq!(fork(cipher, &key, &tweak, &block, want), refused);
@@ -224,6 +251,7 @@ fn unknown_numbers_are_refused_with_zeros() {
         number: REFUSED,
         input: ZERO,
         other: ZERO,
+        rounds: 0,
     };
     let unknown = [
         (0, 0, 0),

@@ -23,6 +23,19 @@
  *  21  the room is cleared with 7 and 8
  *  22  scheme 3 has the limit of scheme 2
  *
+ * or, with the rounds of lengths alone wrong,
+ *
+ *  23  the block of an empty header and an empty body is not counted
+ *  24  scheme 1's blocks are counted as those of 128-256
+ *  25  a short last block is not counted
+ *  26  half 1 is not counted where both halves are needed
+ *  27  the rounds are not written with a refusal
+ *  28  a refusal tells rounds
+ *  29  the body's length is judged before the header's
+ *  30  the limit of the body is a byte lower
+ *  31  of a length only the low 16 bits count
+ *  32  a length is judged before the scheme
+ *
  * and nothing with 0. */
 #include "wrong.h"
 
@@ -224,4 +237,60 @@ uint32_t wrong_unfork(uint32_t cipher, const uint8_t key[16], const uint8_t twea
         memcpy(other, input, 16);
     change_results(number, input, other, before);
     return number;
+}
+
+/* ---- the rounds of lengths ---- */
+
+/* What is wrong with the number. */
+static uint32_t wrong_answer(const struct call *c, uint32_t number)
+{
+    if (is_wrong(29) && number == 3 && c->text_len > limit_of(c))
+        return 8;
+    if (is_wrong(30) && number == 0 && c->text_len == limit_of(c))
+        return 8;
+    if (is_wrong(32) && number == 1 && c->header_len > 1048576)
+        return 3;
+    return number;
+}
+
+/* The rounds if a header block takes so many and a body block so many. */
+static uint32_t rounds_at(const struct call *c, uint32_t header_block, uint32_t body_block)
+{
+    size_t block = block_of(c);
+    uint32_t headers = (uint32_t)((c->header_len + block - 1) / block), bodies = (uint32_t)((c->text_len + block - 1) / block);
+    return headers + bodies == 0 ? header_block : headers * header_block + bodies * body_block;
+}
+
+/* What is wrong with the rounds of lengths that are taken. */
+static uint32_t wrong_count(const struct call *c, uint32_t rounds)
+{
+    uint32_t one = c->scheme == 1 ? 40 : 48, both = c->scheme == 1 ? 63 : 75;
+    if (is_wrong(23) && c->header_len == 0 && c->text_len == 0)
+        return 0;
+    if (is_wrong(24))
+        return rounds_at(c, 48, 75);
+    if (is_wrong(25) && c->header_len % block_of(c) > 0)
+        rounds -= one;
+    if (is_wrong(25) && c->text_len % block_of(c) > 0)
+        rounds -= both;
+    return is_wrong(26) ? rounds_at(c, one, one) : rounds;
+}
+
+uint32_t wrong_rounds(uint32_t scheme, size_t header_len, size_t body_len, uint32_t *rounds)
+{
+    struct call c = {.scheme = scheme, .header_len = header_len, .text_len = body_len};
+    uint32_t untold = *rounds;
+    if (is_wrong(31)) {
+        c.header_len &= 65535;
+        c.text_len &= 65535;
+    }
+    uint32_t number = auraski_rounds(scheme, c.header_len, c.text_len, rounds);
+    uint32_t answer = wrong_answer(&c, number);
+    if (number == 0)
+        *rounds = answer == 0 ? wrong_count(&c, *rounds) : 0;
+    if (is_wrong(27) && number != 0)
+        *rounds = untold;
+    if (is_wrong(28) && (number == 3 || number == 8))
+        *rounds = rounds_at(&c, 48, 75);
+    return answer;
 }

@@ -15,5 +15,6 @@ uint32_t wrong_fork(uint32_t cipher, const uint8_t key[16], const uint8_t tweak[
                     uint8_t half0[16], uint8_t half1[16]);
 uint32_t wrong_unfork(uint32_t cipher, const uint8_t key[16], const uint8_t tweak[16], const uint8_t block[16], uint32_t from,
                       uint32_t want, uint8_t input[16], uint8_t other[16]);
+uint32_t wrong_rounds(uint32_t scheme, size_t header_len, size_t body_len, uint32_t *rounds);
 
 #endif

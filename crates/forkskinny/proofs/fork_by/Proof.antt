@@ -43,8 +43,12 @@ half-if-requires c κs = search needs
 half-if-requires-2 : tie.Need-half-if-requires-2
 half-if-requires-2 c κs = search needs
 
+fork-rounds-requires : tie.Need-fork-rounds-requires
+fork-rounds-requires c κs = search needs
+
 returns : tie.Need-returns
-returns c =
+returns d =
+    let c = d .before in
     let c₃ = c .before .before .before in
     let c₆ = c₃ .before .before .before in
     let c₁₀ = c₆ .before .before .before .before in
@@ -52,7 +56,7 @@ returns c =
     let a = c₁₂ .before .before .before .before .args in
     fork-parts (a .c) (a .key) (a .tweak) (a .block) (a .want) (c₁₂ .before .before .before .is-wanted .ensures) (c₁₂ .before .before .is-wanted2 .ensures)
     (c₁₀ .before .load-key .ensures) (c₁₀ .round-keys .ensures) (c₁₂ .reach-of .ensures) (c₁₂ .before .takes-far .ensures) (c₆ .to-fork .ensures)
-    (c₃ .half-if .ensures) (c .half-if2 .ensures)
+    (c₃ .half-if .ensures) (c .half-if2 .ensures) (d .fork-rounds .ensures)
 
 pub fork-by-spec : {M : Type 1} → statement M
 fork-by-spec =
@@ -68,4 +72,5 @@ fork-by-spec =
     to-fork-requires
     half-if-requires
     half-if-requires-2
+    fork-rounds-requires
     returns)

@@ -52,8 +52,12 @@ input-if-requires c κs = search needs
 half-if-requires : tie.Need-half-if-requires
 half-if-requires c κs = search needs
 
+unfork-rounds-requires : tie.Need-unfork-rounds-requires
+unfork-rounds-requires c κs = search needs
+
 returns : tie.Need-returns
-returns c =
+returns d =
+    let c = d .before in
     let c₃ = c .before .before .before in
     let c₆ = c₃ .before .before .before in
     let c₉ = c₆ .before .before .before in
@@ -62,7 +66,7 @@ returns c =
     let a = c₁₄ .before .before .before .before .before .args in
     unfork-parts (a .c) (a .key) (a .tweak) (a .block) (a .want) (c₁₄ .before .before .before .before .is-wanted .ensures) (c₁₄ .before .before .before .is-wanted2 .ensures)
     (c₁₂ .before .load-key .ensures) (c₁₂ .round-keys .ensures) (a .from) (c₁₄ .reach-of .ensures) (c₁₄ .before .takes-far .ensures)
-    (c₉ .side-of .ensures) (c₁₄ .before .before .other-of .ensures) (c₆ .unrun-branch .ensures) (c₃ .input-if .ensures) (c .half-if .ensures)
+    (c₉ .side-of .ensures) (c₁₄ .before .before .other-of .ensures) (c₆ .unrun-branch .ensures) (c₃ .input-if .ensures) (c .half-if .ensures) (d .unfork-rounds .ensures)
 
 pub unfork-by-spec : {M : Type 1} → statement M
 unfork-by-spec =
@@ -81,4 +85,5 @@ unfork-by-spec =
     unrun-branch-requires
     input-if-requires
     half-if-requires
+    unfork-rounds-requires
     returns)

@@ -31,16 +31,24 @@ returns c =
     open-refuses (a .s) (a .key .now) (a .nonce .now) (a .header .now) _ (after-block-of .block-of .ensures) _ (a .sealed .now)
     (a .room .now) _ _ (after-body-of .body-of .ensures) refl (c .before .check .ensures) (c .if1 .taken)
 
-front-requires : tie.Need-front-requires
-front-requires c κs =
+rounds-requires : tie.Need-rounds-requires
+rounds-requires c κs =
     let start = c .before .before .before .before .before .before .before .before .before in
     let a = start .args in
     let p = check-passed (a .s) _ _ _ _ _ _ _ (sym (c .before .check .ensures) ∙ c .if1 .left) in
+    (omega (arith, p .fit .header-fits, start .pre .header), omega (arith, p .body-fits, start .pre .body))
+
+front-requires : tie.Need-front-requires
+front-requires c κs =
+    let test = c .before in
+    let start = test .before .before .before .before .before .before .before .before .before in
+    let a = start .args in
+    let p = check-passed (a .s) _ _ _ _ _ _ _ (sym (test .before .check .ensures) ∙ test .if1 .left) in
     (omega arith, omega (arith, p .fit .key-fits, start .pre .key))
 
 open-requires : tie.Need-open-requires
 open-requires c κs =
-    let test = c .before .before in
+    let test = c .before .before .before in
     let after-check = test .before in
     let after-body-of = after-check .before in
     let after-block-of = after-body-of .before in
@@ -68,7 +76,8 @@ returns-2 : tie.Need-returns-2
 returns-2 c =
     let after-open = c .before .before .before in
     let after-front = after-open .before .before in
-    let test = after-front .before in
+    let after-rounds = after-front .before in
+    let test = after-rounds .before in
     let after-check = test .before in
     let after-body-of = after-check .before in
     let after-block-of = after-body-of .before in
@@ -78,11 +87,11 @@ returns-2 c =
     open-does (a .s) (a .key .now) (a .nonce .now) (a .header .now) _ (after-block-of .block-of .ensures) _ (a .sealed .now)
     (a .room .now) _ _ (after-body-of .body-of .ensures) refl (after-check .check .ensures)
     (test .if1 .left) _ (key-same (a .key .now) _ (omega (arith, p .fit .key-fits, start .pre .key)) (after-front .front .ensures)) _ _
-    (after-open .«open» .ensures) (c .if2 .taken)
+    (after-open .«open» .ensures) _ (after-rounds .rounds .ensures) (c .if2 .taken)
 
 clear-requires : tie.Need-clear-requires
 clear-requires c κs =
-    let test = c .before .before .before .before .before .before .before in
+    let test = c .before .before .before .before .before .before .before .before in
     let after-check = test .before in
     let start = after-check .before .before .before .before .before .before .before .before in
     let a = start .args in
@@ -98,7 +107,8 @@ returns-3 c =
     let test2 = after-clear .before .before in
     let after-open = test2 .before .before .before in
     let after-front = after-open .before .before in
-    let test = after-front .before in
+    let after-rounds = after-front .before in
+    let test = after-rounds .before in
     let after-check = test .before in
     let after-body-of = after-check .before in
     let after-block-of = after-body-of .before in
@@ -108,7 +118,7 @@ returns-3 c =
     open-forges (a .s) (a .key .now) (a .nonce .now) (a .header .now) _ (after-block-of .block-of .ensures) _ (a .sealed .now)
     (a .room .now) _ _ (after-body-of .body-of .ensures) refl (after-check .check .ensures)
     (test .if1 .left) _ (key-same (a .key .now) _ (omega (arith, p .fit .key-fits, start .pre .key)) (after-front .front .ensures)) _ _
-    (after-open .«open» .ensures) (test2 .if2 .left) _ (after-clear .clear .ensures)
+    (after-open .«open» .ensures) _ (after-rounds .rounds .ensures) (test2 .if2 .left) _ (after-clear .clear .ensures)
 
 pub open-under-spec : {M : Type 1} → statement M
 open-under-spec =
@@ -118,6 +128,7 @@ open-under-spec =
     body-of-requires
     check-requires
     returns
+    rounds-requires
     front-requires
     open-requires
     same-length

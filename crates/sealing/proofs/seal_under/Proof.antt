@@ -25,16 +25,24 @@ returns c =
     seal-refuses (a .s) (a .key .now) (a .nonce .now) (a .header .now) _ (after-block-of .block-of .ensures) _ (a .body .now) _
     (c .before .check .ensures) (c .if1 .taken)
 
-front-requires : tie.Need-front-requires
-front-requires c κs =
+rounds-requires : tie.Need-rounds-requires
+rounds-requires c κs =
     let start = c .before .before .before .before .before .before .before .before in
     let a = start .args in
     let p = check-passed (a .s) _ _ _ _ _ _ _ (sym (c .before .check .ensures) ∙ c .if1 .left) in
+    (omega (arith, p .fit .header-fits, start .pre .header), omega (arith, p .body-fits, start .pre .body))
+
+front-requires : tie.Need-front-requires
+front-requires c κs =
+    let test = c .before in
+    let start = test .before .before .before .before .before .before .before .before in
+    let a = start .args in
+    let p = check-passed (a .s) _ _ _ _ _ _ _ (sym (test .before .check .ensures) ∙ test .if1 .left) in
     (omega arith, omega (arith, p .fit .key-fits, start .pre .key))
 
 seal-requires : tie.Need-seal-requires
 seal-requires c κs =
-    let test = c .before .before in
+    let test = c .before .before .before in
     let after-check = test .before in
     let after-block-of = after-check .before in
     let start = after-block-of .before .before .before .before .before .before in
@@ -45,9 +53,9 @@ seal-requires c κs =
       omega (arith, p .room-fits, after-block-of .block-of .ensures),
     )
 
-add-t12 : tie.Need-add-t12
-add-t12 c =
-    let test = c .before .before .before .before .before in
+add-t14 : tie.Need-add-t14
+add-t14 c =
+    let test = c .before .before .before .before .before .before in
     let after-check = test .before in
     let after-block-of = after-check .before in
     let start = after-block-of .before .before .before .before .before .before in
@@ -62,7 +70,8 @@ returns-2 : tie.Need-returns-2
 returns-2 c =
     let after-seal = c .before .before in
     let after-front = after-seal .before .before in
-    let test = after-front .before in
+    let after-rounds = after-front .before in
+    let test = after-rounds .before in
     let after-check = test .before in
     let after-block-of = after-check .before in
     let start = after-block-of .before .before .before .before .before .before in
@@ -71,7 +80,7 @@ returns-2 c =
     seal-does (a .s) (a .key .now) (a .nonce .now) (a .header .now) _ (after-block-of .block-of .ensures) _ (a .body .now)
     (a .room .now) (after-check .check .ensures) (test .if1 .left) _ _
     (key-same (a .key .now) _ (omega (arith, p .fit .key-fits, start .pre .key)) (after-front .front .ensures))
-    (after-seal .seal .ensures)
+    (after-seal .seal .ensures) _ (after-rounds .rounds .ensures)
 
 pub seal-under-spec : {M : Type 1} → statement M
 seal-under-spec =
@@ -80,8 +89,9 @@ seal-under-spec =
     block-of-requires
     check-requires
     returns
+    rounds-requires
     front-requires
     seal-requires
-    add-t12
+    add-t14
     same-length
     returns-2)

@@ -1,13 +1,14 @@
-//! One call made by the library and by the second program, and compared.
+//! One call made by the library, by the meter and by the second program, and
+//! compared.
 
 use compare::records::{row_of, Call, Direction};
-use compare::sealing::{Answer, DONE, NOT_AUTHENTIC, NUMBERS};
-use compare::{auraski, sealing};
+use compare::sealing::{Answer, Rounds, DONE, NOT_AUTHENTIC, NUMBERS};
+use compare::{auraski, meter, sealing};
 
 /// Bytes behind the room that are not lent and must stay.
 const GUARD: usize = 16;
 
-/// What both sides answered: the number, and the room's front part of the
+/// What all sides answered: the number, and the room's front part of the
 /// length told.
 pub struct Outcome {
     pub number: u32,
@@ -35,6 +36,30 @@ fn fits_the_table(call: &Call, answer: Answer, before: &[u8], after: &[u8]) -> b
         && (answer.number != NOT_AUTHENTIC || is_cleared())
 }
 
+/// Whether the rounds are those that the library tells of the lengths: of a call
+/// that was judged to its end. All others have run none (C-13).
+fn fits_the_lengths(call: &Call, answer: Answer) -> bool {
+    if answer.number != DONE && answer.number != NOT_AUTHENTIC {
+        return answer.rounds == 0;
+    }
+    let body = match call.direction {
+        Direction::Seal => call.text.len(),
+        Direction::Open => call.exact_room(),
+    };
+    let told = Rounds {
+        number: DONE,
+        rounds: answer.rounds,
+    };
+    auraski::rounds(call.scheme, call.header.len(), body) == told
+}
+
+/// The bytes of two rooms are the same.
+fn assert_same(ours: &[u8], second: &[u8], call: &Call) {
+    if let Some(place) = (0..second.len()).find(|place| ours[*place] != second[*place]) {
+        panic!("byte {} of the room: {}", place, description(call));
+    }
+}
+
 fn description(call: &Call) -> String {
     format!(
         "{:?} under scheme {}: key of {} bytes, nonce {}, header {}, text {}, room {}",
@@ -57,21 +82,19 @@ impl Tally {
         bytes.collect()
     }
 
-    /// Makes the call on both sides and asserts that nothing differs.
+    /// Makes the call on all sides and asserts that nothing differs.
     pub fn compare(&mut self, call: &Call) -> Outcome {
         let before = self.filling(call.room + GUARD);
-        let (mut ours, mut second) = (before.clone(), before.clone());
-        let answer = call.make([auraski::seal, auraski::open], &mut ours);
-        let expected = call.make([sealing::seal, sealing::open], &mut second);
-        assert_eq!(answer, expected, "{}", description(call));
-        if let Some(place) = (0..before.len()).find(|place| ours[*place] != second[*place]) {
-            panic!("byte {} of the room: {}", place, description(call));
-        }
-        assert!(
-            fits_the_table(call, answer, &before, &ours),
-            "{}",
-            description(call)
-        );
+        let [mut ours, mut metered, mut second] = [(); 3].map(|_| before.clone());
+        let told = call.make([auraski::seal, auraski::open], &mut ours);
+        let counted = call.make([meter::seal, meter::open], &mut metered);
+        let answer = call.make([sealing::seal, sealing::open], &mut second);
+        assert_eq!(told, answer.told(), "{}", description(call));
+        assert_eq!(counted, answer, "{}", description(call));
+        assert_same(&ours, &second, call);
+        assert_same(&metered, &second, call);
+        let fits = fits_the_table(call, answer, &before, &ours) && fits_the_lengths(call, answer);
+        assert!(fits, "{}", description(call));
         self.count(call.direction, answer.number);
         let output = sealing::view(answer.number, answer.length, &ours).to_vec();
         Outcome {

@@ -127,12 +127,9 @@ fn other_nonces_and_keys_agree() {
 
 /// The run of some whole blocks and a last one as it stands.
 fn forged(call: &Call, whole: &[u8], last: &LastBlock) -> Vec<u8> {
-    let keyed = Keyed {
-        scheme: row_of(call.scheme),
-        key: &load_block(&call.key),
-        nonce: &call.nonce,
-    };
-    forged_run(&keyed, &call.header, whole, last)
+    let key = load_block(&call.key);
+    let mut keyed = Keyed::new(row_of(call.scheme), &key, &call.nonce);
+    forged_run(&mut keyed, &call.header, whole, last)
 }
 
 /// Each bit of the padding wrong under a tag that is right: no flip of a bit

@@ -10,10 +10,10 @@ use compare::sealing::{BODY_TOO_LONG, DONE, HEADER_TOO_LONG, NOT_AUTHENTIC};
 /// A scheme, and the bytes that a header, and a body, may have.
 pub type Limit = (u32, usize);
 
-const PAEF: [Limit; 2] = [(1, 65_528), (2, 131_056)];
+pub const PAEF: [Limit; 2] = [(1, 65_528), (2, 131_056)];
 pub const SAEF: Limit = (3, 1_048_576);
 
-/// Sealed by both and opened by both.
+/// Sealed and opened, by all sides.
 pub fn goes_round(tally: &mut Tally, call: &Call) -> Vec<u8> {
     let run = tally.expect(call, DONE);
     assert_eq!(tally.expect(&call.opening(&run), DONE), call.text);

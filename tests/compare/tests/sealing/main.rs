@@ -1,5 +1,6 @@
-//! The library's seal and open, through its C entry points, against the second
-//! program: number, length and every byte of the room.
+//! The library's seal and open, through its C entry points, and the meter's, which
+//! tell rounds too, against the second program: number, length, every byte of the
+//! room, and the rounds; and the library's rounds of lengths.
 
 mod both;
 mod damage;
@@ -9,5 +10,6 @@ mod limits;
 mod long;
 mod others;
 mod rooms;
+mod rounds;
 
 const SCHEMES: [u32; 3] = [1, 2, 3];

@@ -89,12 +89,9 @@ fn blocks_keep_their_places() {
 /// Seals whole blocks and a last one as it stands, padded well or not, with
 /// the right key.
 fn forged(case: &Case, whole: &[u8], last: &LastBlock) -> Vec<u8> {
-    let keyed = Keyed {
-        scheme: row_of(case.scheme),
-        key: &load_block(&case.key),
-        nonce: &case.nonce,
-    };
-    forged_run(&keyed, &case.header, whole, last)
+    let key = load_block(&case.key);
+    let mut keyed = Keyed::new(row_of(case.scheme), &key, &case.nonce);
+    forged_run(&mut keyed, &case.header, whole, last)
 }
 
 /// Changes each bit of the padding behind a good body. The tag is right every

@@ -1,11 +1,12 @@
 //! Seal, open and view of the second program, against themselves and against
-//! documents 01 and 001.
+//! documents 01 and 001; and their rounds, against C-13.
 
 mod damage;
 mod facts;
 mod figures;
 mod refusals;
 mod round_trips;
+mod rounds;
 
 use compare::random::Random;
 use compare::schemes::Scheme;
@@ -35,6 +36,26 @@ fn row_of(scheme: u32) -> &'static Scheme {
 
 fn size_of(scheme: u32) -> usize {
     row_of(scheme).block_bytes
+}
+
+/// C-13's formula of the lengths alone: the header's blocks give one half each
+/// and the body's both. Where both are empty, one block is worked.
+fn rounds_of(scheme: u32, header_length: usize, body_length: usize) -> u32 {
+    let (one_half, both) = if scheme == 1 { (40, 63) } else { (48, 75) };
+    let blocks_of = |length: usize| ((length + size_of(scheme) - 1) / size_of(scheme)) as u32;
+    match (blocks_of(header_length), blocks_of(body_length)) {
+        (0, 0) => one_half,
+        (header, body) => header * one_half + body * both,
+    }
+}
+
+/// What is told with every refusal but 6.
+fn refused(number: u32) -> Answer {
+    Answer {
+        number,
+        length: 0,
+        rounds: 0,
+    }
 }
 
 /// What a room holds before a call: no byte is zero.
@@ -75,26 +96,37 @@ impl Case {
         open(self.scheme, &self.key, &self.nonce, &self.header, run, room)
     }
 
+    /// By the formula.
+    fn rounds(&self, body_length: usize) -> u32 {
+        rounds_of(self.scheme, self.header.len(), body_length)
+    }
+
     /// A seal that is done, in a room with bytes to spare.
     fn sealed(&self, body: &[u8]) -> Vec<u8> {
         let length = body.len() + size_of(self.scheme);
         let mut room = unused_room(length + SPARE);
         let answer = self.seal_into(body, &mut room);
-        let number = DONE;
-        assert_eq!(answer, Answer { number, length });
+        let expected = Answer {
+            number: DONE,
+            length,
+            rounds: self.rounds(body.len()),
+        };
+        assert_eq!(answer, expected);
         assert_eq!(room[length..], unused_room(length + SPARE)[length..]);
         room.truncate(length);
         room
     }
 
     /// An open of a run of at least one block, in a room with bytes to spare;
-    /// gives the number and the part of the room that a body would take.
+    /// gives the number and the part of the room that a body would take. The
+    /// rounds are the same with 0 and with 6.
     fn opened(&self, run: &[u8]) -> (u32, Vec<u8>) {
         let length = run.len() - size_of(self.scheme);
         let mut room = unused_room(length + SPARE);
         let answer = self.open_into(run, &mut room);
         let expected_length = if answer.number == DONE { length } else { 0 };
         assert_eq!(answer.length, expected_length);
+        assert_eq!(answer.rounds, self.rounds(length));
         assert_eq!(room[length..], unused_room(length + SPARE)[length..]);
         room.truncate(length);
         (answer.number, room)

@@ -1,7 +1,7 @@
 //! Document 01's table of answers with the refusals of C-11, row by row, and
 //! the view call.
 
-use crate::{row_of, size_of, unused_room, Case, LIMITS, SCHEMES};
+use crate::{refused, row_of, size_of, unused_room, Case, LIMITS, SCHEMES};
 use compare::random::Random;
 use compare::sealing::{
     view, Answer, BODY_TOO_LONG, DONE, HEADER_TOO_LONG, NOT_AUTHENTIC, NO_BLOCK, SHORT_ROOM,
@@ -12,11 +12,10 @@ use compare::sealing::{
 /// run is not authentic, which must not matter.
 fn assert_refused(case: &Case, body: &[u8], run: &[u8], number: u32) {
     let room = unused_room(body.len().max(run.len()) + 16);
-    let refused = Answer { number, length: 0 };
     let mut after = room.clone();
-    assert_eq!(case.seal_into(body, &mut after), refused);
+    assert_eq!(case.seal_into(body, &mut after), refused(number));
     assert_eq!(after, room);
-    assert_eq!(case.open_into(run, &mut after), refused);
+    assert_eq!(case.open_into(run, &mut after), refused(number));
     assert_eq!(after, room);
 }
 
@@ -115,8 +114,7 @@ fn runs_shorter_than_a_block_are_4() {
             let room = unused_room(30);
             let mut after = room.clone();
             let answer = case.open_into(&vec![7; length], &mut after);
-            let number = NO_BLOCK;
-            assert_eq!(answer, Answer { number, length: 0 });
+            assert_eq!(answer, refused(NO_BLOCK));
             assert_eq!(after, room);
         }
         case.assert_not_authentic(&vec![7; size_of(scheme)]);
@@ -125,7 +123,6 @@ fn runs_shorter_than_a_block_are_4() {
 
 #[test]
 fn rooms_one_byte_short_are_5_and_exact_ones_enough() {
-    let number = SHORT_ROOM;
     for scheme in SCHEMES {
         let case = good_case(scheme);
         for body in [&[][..], &[1], &[2; 8], &[3; 16], &[4; 50]] {
@@ -133,7 +130,7 @@ fn rooms_one_byte_short_are_5_and_exact_ones_enough() {
             let room = unused_room(run.len());
             let mut after = room.clone();
             let answer = case.seal_into(body, &mut after[1..]);
-            assert_eq!(answer, Answer { number, length: 0 });
+            assert_eq!(answer, refused(SHORT_ROOM));
             assert_eq!(after, room);
             let answer = case.seal_into(body, &mut after);
             let length = run.len();
@@ -147,7 +144,7 @@ fn rooms_one_byte_short_are_5_and_exact_ones_enough() {
             if !body.is_empty() {
                 let mut short = unused_room(body.len() - 1);
                 let answer = case.open_into(&run, &mut short);
-                assert_eq!(answer, Answer { number, length: 0 });
+                assert_eq!(answer, refused(SHORT_ROOM));
                 assert_eq!(short, unused_room(body.len() - 1));
             }
         }
@@ -164,8 +161,11 @@ fn a_run_that_is_not_authentic_is_6_and_leaves_zeros() {
             run[0] ^= 1;
             let mut room = unused_room(100);
             let answer = case.open_into(&run, &mut room);
-            let number = NOT_AUTHENTIC;
-            assert_eq!(answer, Answer { number, length: 0 });
+            let expected = Answer {
+                rounds: case.rounds(body_length),
+                ..refused(NOT_AUTHENTIC)
+            };
+            assert_eq!(answer, expected);
             assert_eq!(room[..body_length], vec![0; body_length]);
             assert_eq!(room[body_length..], unused_room(100)[body_length..]);
         }

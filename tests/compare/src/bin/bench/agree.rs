@@ -2,12 +2,15 @@
 //! timed before.
 
 use crate::block_calls::{answer, Block, Kind};
+use crate::rival;
 use crate::sealing_calls::call_of;
 use crate::side::Side;
+use compare::entries::Told;
 use compare::random::Random;
 use compare::records::Direction;
 use compare::schemes::{Scheme, SCHEMES};
-use compare::sealing::{Answer, NUMBERS};
+use compare::sealing::{Rounds, NUMBERS};
+use compare::{auraski, second};
 
 const SEED: u64 = 10;
 const BLOCK_CALLS: usize = 20_000;
@@ -52,6 +55,14 @@ fn check_block_call(random: &mut Random) {
     );
 }
 
+fn rounds_of(side: Side, scheme: u32, header: usize, body: usize) -> Rounds {
+    match side {
+        Side::Ours => auraski::rounds(scheme, header, body),
+        Side::Rival => rival::rounds(scheme, header, body),
+        Side::Second => second::rounds(scheme, header, body),
+    }
+}
+
 impl Record<'_> {
     /// Rarely a scheme, key or nonce that is refused, or both key and nonce.
     fn new<'a>(random: &mut Random, answered: &'a mut Answered) -> Record<'a> {
@@ -85,9 +96,20 @@ impl Record<'_> {
                 direction.name(), self.scheme, ours.0, rival.0, second.0
             );
         }
-        let (Answer { number, length }, room) = ours;
+        let (Told { number, length }, room) = ours;
         self.answered[number as usize] += 1;
         (length, room)
+    }
+
+    /// The rounds of a body of this length under the header.
+    fn check_rounds(&self, body: usize) {
+        let header = self.header.len();
+        let rounds = Side::ALL.map(|side| rounds_of(side, self.scheme, header, body));
+        assert!(
+            rounds.iter().all(|one| *one == rounds[0]),
+            "the sides do not agree on rounds: scheme {}, lengths {header} and {body}: {rounds:?}",
+            self.scheme
+        );
     }
 
     /// A body sealed and its run opened: as it is, with one bit changed, cut
@@ -95,6 +117,7 @@ impl Record<'_> {
     fn check(mut self, random: &mut Random, body: &[u8]) {
         let block = Scheme::find(self.scheme).map_or(16, |scheme| scheme.block_bytes);
         let spare = random.below(20);
+        self.check_rounds(body.len());
         let (length, room) = self.call(Direction::Seal, body, body.len() + block - 1 + spare);
         let run = &room[..length];
         let exact = length.saturating_sub(block);
@@ -126,6 +149,7 @@ fn check_limits(random: &mut Random, answered: &mut Answered) {
             let room_bytes = body + row.block_bytes;
             let (_, run) = record.call(Direction::Seal, &random.bytes(body), room_bytes);
             record.call(Direction::Open, &run, body);
+            record.check_rounds(body);
         }
     }
 }
@@ -149,5 +173,5 @@ pub fn check() -> String {
         "a number was never the answer: {answered:?}"
     );
     let calls: usize = answered.iter().sum();
-    format!("ours, rival and second answer alike: {BLOCK_CALLS} block calls, {calls} seals and opens (by number from 0: {answered:?})")
+    format!("ours, rival and second answer alike: {BLOCK_CALLS} block calls, {calls} seals and opens (by number from 0: {answered:?}), and the rounds of their lengths")
 }

@@ -3,7 +3,7 @@
 use crate::rival;
 use crate::side::{quickest, Side, Times};
 use compare::auraski::{self, opaque};
-use compare::calls;
+use compare::second;
 
 pub type Block = [u8; 16];
 
@@ -64,8 +64,8 @@ impl Chain {
     }
 }
 
-/// What the C sides find in the blocks of their answer, so that a byte not
-/// written is seen.
+/// What a side finds in the blocks of its answer, so that a byte not written is
+/// seen.
 const BEFORE: u8 = 0xa5;
 
 /// One call: its number and both blocks.
@@ -77,23 +77,17 @@ pub fn answer(
     block: &Block,
 ) -> (u32, Block, Block) {
     let Kind { cipher, from, want } = kind;
-    let (mut first, mut second) = ([BEFORE; 16], [BEFORE; 16]);
-    let room = [&mut first, &mut second];
+    let (mut first, mut other) = ([BEFORE; 16], [BEFORE; 16]);
+    let room = [&mut first, &mut other];
     let number = match (side, from) {
         (Side::Ours, None) => auraski::fork(cipher, key, tweak, block, want, room),
         (Side::Ours, Some(from)) => auraski::unfork(cipher, key, tweak, block, from, want, room),
         (Side::Rival, None) => rival::fork(cipher, key, tweak, block, want, room),
         (Side::Rival, Some(from)) => rival::unfork(cipher, key, tweak, block, from, want, room),
-        (Side::Second, None) => {
-            let answer = calls::fork(cipher, key, tweak, block, want);
-            return (answer.number, answer.half0, answer.half1);
-        }
-        (Side::Second, Some(from)) => {
-            let answer = calls::unfork(cipher, key, tweak, block, from, want);
-            return (answer.number, answer.input, answer.other);
-        }
+        (Side::Second, None) => second::fork(cipher, key, tweak, block, want, room),
+        (Side::Second, Some(from)) => second::unfork(cipher, key, tweak, block, from, want, room),
     };
-    (number, first, second)
+    (number, first, other)
 }
 
 /// A batch of calls: the sum of their numbers, which is 0 if none was refused,

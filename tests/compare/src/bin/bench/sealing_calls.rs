@@ -3,9 +3,10 @@
 use crate::rival;
 use crate::side::{over_passes, quickest, Costs, Side, Times};
 use compare::auraski::{self, opaque};
+use compare::entries::Told;
 use compare::records::{Direction, Sealing};
 use compare::schemes::{Scheme, SCHEMES};
-use compare::sealing;
+use compare::second;
 use std::iter::once;
 
 /// The header of every call.
@@ -44,14 +45,14 @@ pub struct Figure {
     pub costs: Costs,
 }
 
-pub fn call_of(side: Side, direction: Direction) -> Sealing {
+pub fn call_of(side: Side, direction: Direction) -> Sealing<Told> {
     match (side, direction) {
         (Side::Ours, Direction::Seal) => auraski::seal,
         (Side::Ours, Direction::Open) => auraski::open,
         (Side::Rival, Direction::Seal) => rival::seal,
         (Side::Rival, Direction::Open) => rival::open,
-        (Side::Second, Direction::Seal) => sealing::seal,
-        (Side::Second, Direction::Open) => sealing::open,
+        (Side::Second, Direction::Seal) => second::seal,
+        (Side::Second, Direction::Open) => second::open,
     }
 }
 
@@ -74,13 +75,13 @@ impl Work {
             room: vec![0; kind.body + kind.scheme.block_bytes],
         };
         if kind.direction == Direction::Open {
-            work.call(sealing::seal);
+            work.call(second::seal);
             work.text = work.room.clone();
         }
         work
     }
 
-    fn call(&mut self, call: Sealing) -> u32 {
+    fn call(&mut self, call: Sealing<Told>) -> u32 {
         let answer = call(
             self.kind.number,
             &self.key,

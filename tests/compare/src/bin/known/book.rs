@@ -7,6 +7,9 @@ use compare::records::{Call, Direction};
 /// What every byte of a room holds before a call.
 const FILLING: u8 = 0xee;
 
+/// What the result blocks hold before a call, so that one not written is seen.
+const FILLED: [Block; 2] = [[0xa5; 16], [0x5a; 16]];
+
 const TOP: &str = include_str!("top.txt");
 
 pub struct Book {
@@ -102,13 +105,15 @@ impl Book {
         self.block_call(call);
         self.field("want", &call.want.to_string());
         let (key, tweak, block) = (&call.key, &call.tweak, &call.block);
-        let answer = (self.side.fork)(call.cipher, key, tweak, block, call.want);
-        assert_eq!(answer.number, number, "record {}: {}", self.records, about);
-        self.field("number", &answer.number.to_string());
-        self.field("half0", &plain(&answer.half0));
-        self.field("half1", &plain(&answer.half1));
+        let [mut half0, mut half1] = FILLED;
+        let halves = [&mut half0, &mut half1];
+        let told = (self.side.fork)(call.cipher, key, tweak, block, call.want, halves);
+        assert_eq!(told, number, "record {}: {}", self.records, about);
+        self.field("number", &told.to_string());
+        self.field("half0", &plain(&half0));
+        self.field("half1", &plain(&half1));
         self.last.clear();
-        [answer.half0, answer.half1]
+        [half0, half1]
     }
 
     /// A record of unfork.
@@ -118,11 +123,26 @@ impl Book {
         self.field("from", &from.to_string());
         self.field("want", &call.want.to_string());
         let (key, tweak, block) = (&call.key, &call.tweak, &call.block);
-        let answer = (self.side.unfork)(call.cipher, key, tweak, block, from, call.want);
+        let [mut input, mut other] = FILLED;
+        let results = [&mut input, &mut other];
+        let told = (self.side.unfork)(call.cipher, key, tweak, block, from, call.want, results);
+        assert_eq!(told, number, "record {}: {}", self.records, about);
+        self.field("number", &told.to_string());
+        self.field("input", &plain(&input));
+        self.field("other", &plain(&other));
+        self.last.clear();
+    }
+
+    /// A record of rounds.
+    pub fn rounds(&mut self, about: &str, scheme: u32, [header, body]: [usize; 2], number: u32) {
+        self.begin("rounds", about);
+        self.field("scheme", &scheme.to_string());
+        self.field("header_len", &header.to_string());
+        self.field("body_len", &body.to_string());
+        let answer = (self.side.rounds)(scheme, header, body);
         assert_eq!(answer.number, number, "record {}: {}", self.records, about);
         self.field("number", &answer.number.to_string());
-        self.field("input", &plain(&answer.input));
-        self.field("other", &plain(&answer.other));
+        self.field("rounds", &answer.rounds.to_string());
         self.last.clear();
     }
 }

@@ -83,11 +83,7 @@ fn write_forged(book: &mut Book, random: &mut Random, scheme: u32) {
     let row = row_of(scheme);
     let body = random.bytes(3);
     let call = Call::drawn(random, scheme, 6, 0).with(|call| call.text = body.clone());
-    let keyed = Keyed {
-        scheme: row,
-        key: call.key[..].try_into().unwrap(),
-        nonce: &call.nonce,
-    };
+    let mut keyed = Keyed::new(row, call.key[..].try_into().unwrap(), &call.nonce);
     let paddings: [(&str, usize, u8, u32); 5] = [
         ("The right padding.", 3, 0x80, DONE),
         ("Zeros for the padding.", 3, 0x00, NOT_AUTHENTIC),
@@ -107,7 +103,7 @@ fn write_forged(book: &mut Book, random: &mut Random, scheme: u32) {
             block,
             body_bytes: body.len(),
         };
-        let run = forged_run(&keyed, &call.header, &[], &last);
+        let run = forged_run(&mut keyed, &call.header, &[], &last);
         book.sealing(about, &call.opening(&run), number);
     }
 }

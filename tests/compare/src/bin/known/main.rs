@@ -10,6 +10,7 @@ mod lengths;
 mod limits;
 mod refusals;
 mod rooms;
+mod rounds;
 mod side;
 mod value;
 
@@ -26,7 +27,8 @@ fn side_of(word: &str) -> Option<&'static Side> {
     }
 }
 
-/// The sections stand by themselves: each has its own numbers to draw from.
+/// The sections stand by themselves: each has its own numbers to draw from. The
+/// limits come last, so that tests/known/run can leave the longest of them out.
 fn whole_text(side: &'static Side) -> String {
     let mut book = Book::new(side);
     blocks::write(&mut book);
@@ -35,6 +37,7 @@ fn whole_text(side: &'static Side) -> String {
     rooms::write(&mut book);
     refusals::write(&mut book);
     damage::write(&mut book);
+    rounds::write(&mut book);
     limits::write(&mut book);
     book.end()
 }

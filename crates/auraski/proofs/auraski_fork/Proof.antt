@@ -1,0 +1,15 @@
+-- `auraski::auraski_fork` meets its contract: the number and the halves of the answer. Assumes nothing.
+use mathlib.Core.Path.{ap}
+use Rattle.auraski.specs.Entries.{halvesIn}
+use borrow.Author.Needs.{needs}
+use Rattle.auraski.proofs.auraski_fork.Statement.{statement}
+use Rattle.auraski.proofs.auraski_fork.Tie as tie
+
+fork-requires : tie.Need-fork-requires
+fork-requires c κs = search needs
+
+returns : tie.Need-returns
+returns c = ap halvesIn (c .before .before .fork .ensures)
+
+pub auraski-fork-spec : {M : Type 1} → statement M
+auraski-fork-spec = tie.close (tie.spec fork-requires returns)

@@ -1,0 +1,74 @@
+-- What a call that was worked tells of its rounds: the sum over its list of block calls, and the formula of the lengths of header and body.
+-- Assumes nothing.
+use mathlib.Core.Path.{_≡_, refl, sym, ap, _∙_}
+use Prim.Native.Nat.{ℕ, _-_}
+use mathlib.Core.Logic.{⊎-elim}
+use mathlib.Core.Bool.{Bool, true, false}
+use mathlib.Core.List.{List}
+use lib.ListN.{length}
+use borrow.Author.Tests.{ltb-false}
+use Rattle.cells.proofs.Choice.{either}
+use Rattle.ciphers.specs.Ciphers.{blockOf}
+use Rattle.steps.specs.Modes.{roundsOf}
+use Rattle.sealing.specs.declared.schemes.Scheme.{Scheme}
+use Rattle.sealing.specs.declared.schemes.Named.the-variants.{Known}
+use Rattle.sealing.specs.Schemes.{schemeOf}
+use Rattle.sealing.specs.Calls.{Told, done, forged, sealed, opened, sealRounds, openRounds, sealUnder, openUnder}
+use Rattle.sealing.specs.Checks.{bodyIn, checked}
+use Rattle.sealing.specs.Numbers.{answered, Under, Worked}
+use Rattle.sealing.proofs.Numbers.{says-0, says-6}
+use Rattle.sealing.proofs.Passed.{check-long, all-passed}
+use Rattle.sealing.proofs.Sums.{seal-sum, open-sum}
+use Rattle.sealing.proofs.Table.{of-named, seal-known, open-known}
+
+module _ (scheme : ℕ) (key nonce header input room : List ℕ) where
+  abbrev check : (opens : Bool) → Scheme → ℕ
+  check opens s = checked opens s (length key) (length nonce) (length header) (length input) (length room)
+
+  abbrev told : (opens : Bool) → Told
+  told opens = answered opens scheme key nonce header input room
+
+  -- no check applied
+  pub worked-check : (opens : Bool) → Worked (told opens .number) → Under scheme (λ s. check opens s ≡ 0)
+  worked-check opens =
+      ⊎-elim
+      (λ e. let (s, known, (c, _)) = says-0 opens scheme key nonce header input room .0 e in (s, known, c))
+      (λ e. let (s, known, (c, _, _)) = says-6 opens scheme key nonce header input room .0 e in (s, known, c))
+
+  -- ---- under a scheme
+
+  module _ (s : Scheme) (known : schemeOf scheme ≡ Known s) where
+    pub seal-told : check false s ≡ 0 → told false .rounds ≡ sealRounds s key nonce header input
+    unfolding sealUnder
+    seal-told c = ap (λ (t : Told). t .rounds) (seal-known scheme s known key nonce header input room ∙ all-passed _ _ room c)
+
+    pub open-told : check true s ≡ 0 → told true .rounds ≡ openRounds s key nonce header input
+    unfolding openUnder
+    open-told c =
+        let k = openRounds s key nonce header input in
+        let l = length input - blockOf (s .cipher) in
+        let o = opened s key nonce header input in
+        ap (λ (t : Told). t .rounds) (open-known scheme s known key nonce header input room ∙ all-passed _ _ room c)
+        ∙ either (λ (t : Told). t .rounds ≡ k) (o .authentic) (done k l (o .body) room) (forged k l room) refl refl
+
+    told-rounds : (opens : Bool) → check opens s ≡ 0 → told opens .rounds ≡ roundsOf (s .kind) (s .cipher) (length header) (bodyIn opens s (length input))
+    told-rounds false c = seal-told c ∙ seal-sum s key nonce header input
+    told-rounds true c = open-told c ∙ open-sum s key nonce header input (ltb-false _ _ (check-long s _ _ _ _ _ _ _ c))
+
+  -- ---- by its number
+
+  pub worked-rounds : (opens : Bool) → Worked (told opens .number)
+      → Under scheme (λ s. told opens .rounds ≡ roundsOf (s .kind) (s .cipher) (length header) (bodyIn opens s (length input)))
+  worked-rounds opens w = let (s, known, c) = worked-check opens w in (s, known, told-rounds s known opens c)
+
+-- two calls under one scheme, whose headers have one length, and whose bodies do
+pub same-rounds : (scheme : ℕ) (opens opens′ : Bool) (key nonce header input room key′ nonce′ header′ input′ room′ : List ℕ)
+    → Worked (answered opens scheme key nonce header input room .number)
+    → Worked (answered opens′ scheme key′ nonce′ header′ input′ room′ .number)
+    → length header ≡ length header′
+    → ((s : Scheme) → schemeOf scheme ≡ Known s → bodyIn opens s (length input) ≡ bodyIn opens′ s (length input′))
+    → answered opens scheme key nonce header input room .rounds ≡ answered opens′ scheme key′ nonce′ header′ input′ room′ .rounds
+same-rounds scheme opens opens′ key nonce header input room key′ nonce′ header′ input′ room′ w w′ h b =
+    let (s, known, r) = worked-rounds scheme key nonce header input room opens w in
+    let r′ = of-named _ scheme s known (worked-rounds scheme key′ nonce′ header′ input′ room′ opens′ w′) in
+    r ∙ (λ i. roundsOf (s .kind) (s .cipher) (h i) (b s known i)) ∙ sym r′
