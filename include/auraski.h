@@ -11,7 +11,8 @@
  * A pointer stands for as many bytes as the length behind it says, `length` for one size_t and `rounds` for one uint32_t. No pointer may be
  * null; where the length is 0 any other will do, such as the address of any object, and nothing is read or written through it. What a call
  * writes (room and *length, *rounds, or both result blocks) must not overlap anything else that it is given, so that nothing is sealed or
- * opened in place; what it only reads may overlap. A call changes nothing but what is said below, and returns, for every value of every argument and every length.
+ * opened in place; what it only reads may overlap. A call changes nothing but what is said below, and returns, for every value of every
+ * argument and every length.
  *
  * What is proved is proved of the library's source. That its machine code does the same, and that the prototypes below fit what it exports,
  * is assumed, and tested. Take the header that came with the library: nothing checks that the two belong together.

@@ -13,7 +13,7 @@ use Rattle.steps.specs.Modes.{roundsOf}
 use Rattle.sealing.specs.declared.schemes.Scheme.{Scheme}
 use Rattle.sealing.specs.declared.schemes.Named.the-variants.{Known}
 use Rattle.sealing.specs.Schemes.{schemeOf}
-use Rattle.sealing.specs.Calls.{Told, done, forged, sealed, opened, sealRounds, openRounds, sealUnder, openUnder}
+use Rattle.sealing.specs.Calls.{Told, done, forged, opened, sealRounds, openRounds, sealUnder, openUnder}
 use Rattle.sealing.specs.Checks.{bodyIn, checked}
 use Rattle.sealing.specs.Numbers.{answered, Under, Worked}
 use Rattle.sealing.proofs.Numbers.{says-0, says-6}

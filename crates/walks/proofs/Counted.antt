@@ -1,6 +1,6 @@
 -- The rounds as they are counted: no product and no sum is too large for 32 bits, and what comes out is the formula. The code has the
 -- block's length as N, the prices as P, the header's blocks as H and the body's blocks before the last as B. Assumes nothing.
-use mathlib.Core.Path.{_≡_, refl, sym, ap, subst⁻¹, _∙_}
+use mathlib.Core.Path.{_≡_, refl, ap, subst⁻¹, _∙_}
 use Prim.Native.Nat.{ℕ, _+_, _*_, _≤_}
 use native.Mathlib.Nat.{mul-le-mul}
 use native.Mathlib.Omega.{arith}
