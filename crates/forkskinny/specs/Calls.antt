@@ -33,15 +33,18 @@ numberOf N128T256 = 2
 abbrev pub underCipher : {A : Type 0} → ℕ → (Cipher → A) → A → A
 underCipher cipher f refused = cond (eqb cipher 1) (f N64T192) (cond (eqb cipher 2) (f N128T256) refused)
 
--- rounds that are run where something is asked for
+-- the rounds of a call: n always, a for its first result and b for its second, where they are asked for
 abbrev pub roundsIf : Bool → ℕ → ℕ
 roundsIf asked n = cond asked n 0
+
+abbrev pub roundsFor : (n a b want : ℕ) → ℕ
+roundsFor n a b want = n + roundsIf (wants 0 want) a + roundsIf (wants 1 want) b
 
 -- ---- forward
 
 -- those before the fork, and those of each branch that is asked for (001, figure 4: enc 3, 5, 9)
 unfoldable pub forkRounds : Cipher → (want : ℕ) → ℕ
-forkRounds c want = initOf c + roundsIf (wants 0 want) (branchOf c) + roundsIf (wants 1 want) (branchOf c)
+forkRounds c want = roundsFor (initOf c) (branchOf c) (branchOf c) want
 
 abbrev pub forkRefused : Forked
 forkRefused = record { number = 1; half0 = zeros; half1 = zeros; rounds = 0 }
@@ -63,7 +66,7 @@ forkOf cipher key tweak block want =
 -- those of the branch whose half is given; those before the fork, where the input is asked for; those of the other branch, where its half
 -- is (001, figure 4: dec 5 and 8, 11, 15)
 unfoldable pub unforkRounds : Cipher → (want : ℕ) → ℕ
-unforkRounds c want = branchOf c + roundsIf (wants 0 want) (initOf c) + roundsIf (wants 1 want) (branchOf c)
+unforkRounds c want = roundsFor (branchOf c) (initOf c) (branchOf c) want
 
 abbrev pub unforkRefused : Unforked
 unforkRefused = record { number = 1; input = zeros; other = zeros; rounds = 0 }

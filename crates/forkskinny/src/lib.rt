@@ -8,7 +8,7 @@ ghost use Rattle.schedule.specs.Schedule.{RoundKeys};
 ghost use Rattle.ciphers.specs.Ciphers.{widthOf, wordsOf, initOf, branchOf};
 ghost use Rattle.forkskinny.specs.ForkSkinny.{sideOf, otherOf, startOf, enter, forked, branch, unbranch, unforked};
 ghost use Rattle.forkskinny.specs.Reach.{farIf, takesFar, reachOf};
-ghost use Rattle.forkskinny.specs.Calls.{given, wants, roundsIf, forkRounds, forkRefused, forkBy, forkOf, unforkRounds, unforkRefused, unforkBy, unforkOf};
+ghost use Rattle.forkskinny.specs.Calls.{given, wants, roundsIf, roundsFor, forkRounds, forkRefused, forkBy, forkOf, unforkRounds, unforkRefused, unforkBy, unforkOf};
 use ciphers::Cipher;
 
 // After the fork the near branch goes on, and the far one takes the rounds after it.
@@ -194,14 +194,23 @@ fn rounds_if(asked: bool, n: usize) -> usize
     if asked { n } else { 0 }
 }
 
+// The rounds of a call: n always, a for its first result and b for its second.
+fn rounds_for(n: usize, a: usize, b: usize, want: u32) -> u32
+    requires { ⌜ n + a + b ≤ 87 ⌝ }
+    ensures { λ r. ⌜ r ≡ roundsFor n a b want ⌝ }
+{
+    let first = rounds_if(is_wanted(0, want), a);
+    let second = rounds_if(is_wanted(1, want), b);
+    (n + first + second) as u32
+}
+
 // The rounds of a call forward: those before the fork, and those of each branch that is asked for.
 pub fn fork_rounds(c: Cipher, want: u32) -> u32
     ensures { λ r. ⌜ r ≡ forkRounds c want ⌝ }
 {
-    let n = ciphers::branch_of(c);
-    let first = rounds_if(is_wanted(0, want), n);
-    let second = rounds_if(is_wanted(1, want), n);
-    (ciphers::init_of(c) + first + second) as u32
+    let n = ciphers::init_of(c);
+    let half = ciphers::branch_of(c);
+    rounds_for(n, half, half, want)
 }
 
 // What a block call forward answers: 0, what was asked for and the rounds, or 1, zeros and no rounds.
@@ -266,9 +275,9 @@ fn unfork_rounds(c: Cipher, want: u32) -> u32
     ensures { λ r. ⌜ r ≡ unforkRounds c want ⌝ }
 {
     let n = ciphers::branch_of(c);
-    let input = rounds_if(is_wanted(0, want), ciphers::init_of(c));
-    let other = rounds_if(is_wanted(1, want), n);
-    (n + input + other) as u32
+    let input = ciphers::init_of(c);
+    let other = ciphers::branch_of(c);
+    rounds_for(n, input, other, want)
 }
 
 // What a block call back answers: 0, what was asked for and the rounds, or 1, zeros and no rounds.
