@@ -41,13 +41,13 @@ pub extern "C" fn meter_unfork(
 ) -> u32
     ensures { λ r. ⌜ unforkTold r (now (input .exit)) (now (other .exit)) (now (rounds .exit)) ≡ unforkOf cipher (now (key .entry)) (now (tweak .entry)) (now (block .entry)) from want ⌝ }
 {
-    let f = forkskinny::unfork(cipher, *key, *tweak, *block, from, want);
-    let a = f.input;
-    let b = f.other;
+    let u = forkskinny::unfork(cipher, *key, *tweak, *block, from, want);
+    let a = u.input;
+    let b = u.other;
     *input = a;
     *other = b;
-    *rounds = f.rounds;
-    f.number
+    *rounds = u.rounds;
+    u.number
 }
 
 #[no_mangle]
@@ -82,8 +82,8 @@ pub extern "C" fn meter_open(
 ) -> u32
     ensures { λ r. ⌜ callTold r (now (length .exit)) (now (room .exit)) (now (rounds .exit)) ≡ openOf scheme (now (key .entry)) (now (nonce .entry)) (now (header .entry)) (now (sealed .entry)) (now (room .entry)) ⌝ }
 {
-    let a = sealing::open(scheme, key, nonce, header, sealed, room);
-    *length = a.length;
-    *rounds = a.rounds;
-    a.number
+    let b = sealing::open(scheme, key, nonce, header, sealed, room);
+    *length = b.length;
+    *rounds = b.rounds;
+    b.number
 }
