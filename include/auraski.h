@@ -6,7 +6,10 @@
  * 128 bytes below the stack pointer, and the vector registers, by SSE2, which every x86-64 machine has. So it is not fit for a kernel or an
  * interrupt handler. It calls memcpy and memset and nothing else, allocates nothing, prints nothing and keeps nothing from one call to the
  * next: calls may run at the same time in several threads. A call does not wipe its stack: parts of key and body may stay behind there.
- * How long a call takes, and which memory it reads, may depend on the key and the data.
+ *
+ * Which memory a call reads or writes does not depend on key, body or block: no table is read at a place that does. Nor does a branch, but
+ * that auraski_open, where it judges a run, goes on by its answer, 0 or 6. That is tested on the machine code, not proved. Nothing more is
+ * said of the time that a call takes. It may depend on lengths, nonce, tweak, header and sealed run, which are no secrets here.
  *
  * A pointer stands for as many bytes as the length behind it says, `length` for one size_t and `rounds` for one uint32_t. No pointer may be
  * null; where the length is 0 any other will do, such as the address of any object, and nothing is read or written through it. What a call
@@ -24,9 +27,9 @@
 #include <stdint.h>
 
 /* The same as `pkg-config --modversion auraski` says. */
-#define AURASKI_VERSION "0.5.0"
+#define AURASKI_VERSION "0.6.0"
 #define AURASKI_VERSION_MAJOR 0
-#define AURASKI_VERSION_MINOR 5
+#define AURASKI_VERSION_MINOR 6
 #define AURASKI_VERSION_PATCH 0
 
 /* A call takes at most so many bytes of stack, its arguments included, whatever the record's length: an empty one takes as much as one with

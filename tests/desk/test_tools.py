@@ -22,8 +22,8 @@ class Tools(roots.RootTest):
         return sorted(os.path.join(folder, name) for folder, _, names in os.walk(self.folder) for name in names)
 
     def test_all_are_there(self):
-        self.assertLessEqual({"bench", "compare", "desk", "example", "fuzz", "install", "installed", "jobs", "library", "program", "setup",
-                              "valgrind"}, set(NAMES))
+        self.assertLessEqual({"bench", "compare", "desk", "example", "fuzz", "install", "installed", "jobs", "library", "program", "secrets",
+                              "setup", "valgrind"}, set(NAMES))
 
     def test_help(self):
         before = self.listing()

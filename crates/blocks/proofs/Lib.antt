@@ -1,3 +1,4 @@
+pub mod Collected
 pub mod Over
 pub mod Parts
 pub mod Wrote

@@ -2,6 +2,7 @@
 ghost use mathlib.Core.Path.{_≡_};
 ghost use mathlib.Core.List.{_++_};
 ghost use Prim.Native.Nat.{_≤_, _-_};
+ghost use lib.Dec.{eqb};
 ghost use lib.ListN.{length, take, drop, replicate};
 ghost use Rattle.modes.specs.Blocks.{_⊕_, pad, same};
 
@@ -70,19 +71,25 @@ pub fn xored(a: [u8; 16], b: [u8; 16]) -> [u8; 16]
     r
 }
 
+// The differences of two parts, collected: 0 exactly where they hold the same bytes. No byte ends it early; lengths are no secret.
+pub fn differences(a: &[u8], b: &[u8]) -> u8
+    ensures { λ r. ⌜ eqb r 0 ≡ same (now (a .entry)) (now (b .entry)) ⌝ }
+{
+    if a.len() != b.len() {
+        return 1;
+    }
+    let mut d = 0;
+    let mut at = 0;
+    while at < a.len() {
+        d = d | (a[at] ^ b[at]);
+        at += 1;
+    }
+    d
+}
+
 // Whether two parts hold the same bytes.
 pub fn equal(a: &[u8], b: &[u8]) -> bool
     ensures { λ r. ⌜ r ≡ same (now (a .entry)) (now (b .entry)) ⌝ }
 {
-    if a.len() != b.len() {
-        return false;
-    }
-    let mut at = 0;
-    while at < a.len() {
-        if a[at] != b[at] {
-            return false;
-        }
-        at += 1;
-    }
-    true
+    differences(a, b) == 0
 }

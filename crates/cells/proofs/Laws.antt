@@ -1,11 +1,9 @@
 -- The laws of the cells, over the width: the tables undo each other, the steps of words 2 and 3 undo each other, and all stay
 -- below the width's size. Assumes nothing.
-use mathlib.Core.List.{List}
 use Prim.Native.Nat.{ℕ, _<_}
 use Rattle.cells.specs.Cells.{Width, Nibble, Byte, size, sub, unsub, sub8, unsub8, flips, shuffle, unshuffle, swap, step2, step3}
 use native.Mathlib.Omega.{arith}
 use lib.Bits.{bitXor, xor-lt}
-use lib.ListN.{getD}
 use Rattle.cells.proofs.Below.{Undoes, undoes}
 
 pub sub-law : (w : Width) → Undoes (size w) (sub w) (unsub w)
@@ -27,10 +25,6 @@ pub step3-law : (w : Width) → Undoes (size w) (step3 w) (step2 w)
 unfolding step2 step3
 step3-law Nibble = undoes (step3 Nibble) (step2 Nibble) 16 tt
 step3-law Byte = undoes (step3 Byte) (step2 Byte) 256 tt
-
--- each of a list's cells is of the width: past the end a cell counts as 0
-abbrev pub LowCells : Width → List ℕ → Type 0
-LowCells w t = (k : ℕ) → getD t k 0 < size w
 
 -- the exclusive or of two cells is a cell
 pub xor-low : (w : Width) (a b : ℕ) → a < size w → b < size w → bitXor a b < size w

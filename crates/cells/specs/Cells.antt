@@ -21,6 +21,10 @@ abbrev pub size : Width → ℕ
 size Nibble = 16
 size Byte = 256
 
+-- each of a list's cells is of the width: past the end a cell counts as 0
+abbrev pub LowCells : Width → List ℕ → Type 0
+LowCells w t = (k : ℕ) → getD t k 0 < size w
+
 -- every element of a list is a byte; past the end an element counts as 0
 pub record Bytes (b : List ℕ) : Type 0 where
   pub at : (k : ℕ) → getD b k 0 < 256

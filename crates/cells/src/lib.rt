@@ -1,4 +1,6 @@
 // The cells: nibbles or bytes, their tables forward and backward, and the steps of tweakey words 2 and 3.
+pub mod words;
+
 ghost use mathlib.Core.Path.{_≡_};
 ghost use Rattle.cells.specs.Cells.{Nibble, Byte, Tabulates, sub, unsub, step2, step3};
 

@@ -10,9 +10,9 @@ use lib.Dec.{lit≤, lit<, ltb}
 use lib.ListN.{length, getD, take, replicate}
 use lib.Bits.{bitXor}
 use lib.Seq.{ext-getD, getD-take, length-take-le, take-all}
-use Rattle.cells.specs.Cells.{Width, Nibble, Byte, size, Bytes}
+use Rattle.cells.specs.Cells.{Width, Nibble, Byte, size, Bytes, LowCells}
 use Rattle.cells.proofs.Below.{tab, table}
-use Rattle.cells.proofs.Laws.{LowCells, step2-law, small-low, xor-low}
+use Rattle.cells.proofs.Laws.{step2-law, small-low, xor-low}
 use Rattle.cells.proofs.Xor.{xor-last}
 use Rattle.schedule.proofs.Low.{tab-low}
 use Rattle.rounds.specs.State.{State, cell}
@@ -25,6 +25,15 @@ use Rattle.ciphers.specs.Ciphers.{widthOf, initOf, branchOf, blockOf, ni
 pub fit : (c : Cipher) → initOf c + (branchOf c + branchOf c) ≤ 87
 fit N64T192 = lit≤ tt
 fit N128T256 = lit≤ tt
+
+-- there are rounds before the fork, and more in a branch
+pub init-some : (c : Cipher) → 0 < initOf c
+init-some N64T192 = lit< tt
+init-some N128T256 = lit< tt
+
+pub branch-more : (c : Cipher) → initOf c < branchOf c
+branch-more N64T192 = lit< tt
+branch-more N128T256 = lit< tt
 
 -- a block has some bytes, and no more than sixteen
 pub block-some : (c : Cipher) → 0 < blockOf c

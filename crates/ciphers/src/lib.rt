@@ -1,8 +1,8 @@
-// The ciphers: their sizes, blocks and keys as cells, the branch constant, and what a block call makes once: tables and round keys.
+// The ciphers: their sizes, blocks and keys as cells, the branch constant, and what a block call makes once: the round keys.
 ghost use mathlib.Core.Path.{_≡_};
 ghost use Prim.Native.Nat.{_≤_};
-ghost use Rattle.cells.specs.Cells.{Nibble, Byte, Tabulates, sub, unsub};
-ghost use Rattle.schedule.specs.Schedule.{RoundKeys};
+ghost use Rattle.cells.specs.Cells.{Nibble, Byte, LowCells, Bytes};
+ghost use Rattle.schedule.specs.Schedule.{Room, RoundKeys};
 ghost use Rattle.ciphers.specs.Ciphers.{widthOf, wordsOf, initOf, branchOf, blockOf, loaded, load, unloaded, unload, keyCells, tk, xored, branchConstant, addBranch};
 use schedule::Tweakey;
 
@@ -319,34 +319,22 @@ pub fn add_branch(c: Cipher, s: [[u8; 4]; 4]) -> [[u8; 4]; 4]
 
 // ---- what a call makes once
 
-// The cells' table forward, and backward.
-pub fn table_of(c: Cipher) -> [u8; 256]
-    ensures { λ r. ⌜ Tabulates (sub (widthOf c)) 256 r ⌝ }
+fn nothing() {}
+
+// What an array of bytes holds is bytes: the checker knows it of a slice that is passed on. (No code is left of this.)
+pub fn bytes_known(s: &[u8])
+    ensures { λ _. ⌜ Bytes (now (s .entry)) ⌝ }
 {
-    match c {
-        Cipher::N64T192 => cells::nibble_table(),
-        Cipher::N128T256 => cells::byte_table(),
-    }
+    nothing();
 }
 
-pub fn untable_of(c: Cipher) -> [u8; 256]
-    ensures { λ r. ⌜ Tabulates (unsub (widthOf c)) 256 r ⌝ }
+// The keys of the first m rounds, laid on the constants.
+pub fn lay_keys(c: Cipher, keys: &mut [[u8; 8]; 97], m: usize, t: Tweakey)
+    requires { ⌜ (m ≤ 87) × (t .at ≡ 0) × LowCells (widthOf c) (t .cells) × Room (now keys) ⌝ }
+    ensures { λ r. ⌜ RoundKeys (widthOf c) (wordsOf c) m t (now (keys .exit)) ⌝ }
 {
     match c {
-        Cipher::N64T192 => cells::nibble_untable(),
-        Cipher::N128T256 => cells::byte_untable(),
+        Cipher::N64T192 => schedule::lay_keys_64_192(keys, m, t),
+        Cipher::N128T256 => schedule::lay_keys_128_256(keys, m, t),
     }
-}
-
-// The keys of the first m rounds.
-pub fn round_keys(c: Cipher, m: usize, t: Tweakey) -> [[u8; 8]; 97]
-    requires { ⌜ (m ≤ 87) × (t .at ≡ 0) ⌝ }
-    ensures { λ r. ⌜ RoundKeys (widthOf c) (wordsOf c) m t r ⌝ }
-{
-    let mut keys = [[0u8; 8]; 97];
-    match c {
-        Cipher::N64T192 => schedule::lay_keys_64_192(&mut keys, m, t),
-        Cipher::N128T256 => schedule::lay_keys_128_256(&mut keys, m, t),
-    }
-    keys
 }

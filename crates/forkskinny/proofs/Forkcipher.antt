@@ -4,8 +4,7 @@ use mathlib.Core.Path.{_≡_, sym, ap, _∙_}
 use mathlib.Core.List.{List}
 use Prim.Native.Nat.{ℕ}
 use lib.ListN.{length, take}
-use Rattle.cells.specs.Cells.{Bytes, Block}
-use Rattle.cells.proofs.Laws.{LowCells}
+use Rattle.cells.specs.Cells.{Bytes, Block, LowCells}
 use Rattle.schedule.specs.declared.Tweakey.{Tweakey}
 use Rattle.ciphers.specs.declared.Cipher.{Cipher}
 use Rattle.ciphers.specs.Ciphers.{widthOf, blockOf, counted, tk}

@@ -5,9 +5,8 @@ use mathlib.Core.List.{List}
 use Prim.Native.Nat.{ℕ, _*_, _/_, _%_}
 use native.Mathlib.Omega.{arith}
 use lib.ListN.{length}
-use Rattle.cells.specs.Cells.{Width, Nibble, Byte, Words, Bytes, Block}
+use Rattle.cells.specs.Cells.{Width, Nibble, Byte, Words, Bytes, Block, LowCells}
 use Rattle.cells.proofs.Below.{tab}
-use Rattle.cells.proofs.Laws.{LowCells}
 use Rattle.schedule.specs.declared.Tweakey.{Tweakey}
 use Rattle.schedule.specs.Schedule.{advance}
 use Rattle.schedule.proofs.Low.{tab-low, advance-low}

@@ -1,14 +1,20 @@
 // ForkSkinny: the fork forward and back, and the block calls.
+pub mod by_cipher;
+
 ghost use mathlib.Core.Path.{_≡_};
 ghost use mathlib.Core.Bool.{true};
 ghost use Prim.Native.Nat.{_+_, _≤_};
-ghost use Rattle.cells.specs.Cells.{Tabulates, sub, unsub};
 ghost use Rattle.schedule.specs.declared.Tweakey.{Tweakey};
 ghost use Rattle.schedule.specs.Schedule.{RoundKeys};
 ghost use Rattle.ciphers.specs.Ciphers.{widthOf, wordsOf, initOf, branchOf};
+ghost use Rattle.forkskinny.specs.declared.Branch.the-variants.{Near, Far};
 ghost use Rattle.forkskinny.specs.ForkSkinny.{sideOf, otherOf, startOf, enter, forked, branch, unbranch, unforked};
 ghost use Rattle.forkskinny.specs.Reach.{farIf, takesFar, reachOf};
 ghost use Rattle.forkskinny.specs.Calls.{given, wants, roundsIf, roundsFor, forkRounds, forkRefused, forkBy, forkOf, unforkRounds, unforkRefused, unforkBy, unforkOf};
+use by_cipher::run;
+use by_cipher::run_apart;
+use by_cipher::run_both;
+use by_cipher::unrun;
 use ciphers::Cipher;
 
 // After the fork the near branch goes on, and the far one takes the rounds after it.
@@ -86,57 +92,72 @@ fn enter_branch(c: Cipher, b: Branch, s: [[u8; 4]; 4]) -> [[u8; 4]; 4]
 }
 
 // The state at the fork.
-fn to_fork(c: Cipher, table: &[u8; 256], keys: &[[u8; 8]; 97], m: [u8; 16]) -> [[u8; 4]; 4]
-    requires { ⌜ Tabulates (sub (widthOf c)) 256 (now table) ⌝ }
+fn to_fork(c: Cipher, keys: &[[u8; 8]; 97], m: [u8; 16]) -> [[u8; 4]; 4]
     ensures { λ r. ⌜ ((t : Tweakey) → RoundKeys (widthOf c) (wordsOf c) (initOf c) t (now (keys .entry)) → r ≡ forked c t m) ⌝ }
 {
     let n = ciphers::init_of(c);
-    runs::run(table, keys, 0, n, ciphers::load_state(c, m))
+    run(c, keys, 0, n, ciphers::load_state(c, m))
 }
 
 // A branch from the state at the fork.
-fn run_branch(
-    c: Cipher,
-    b: Branch,
-    table: &[u8; 256],
-    keys: &[[u8; 8]; 97],
-    s: [[u8; 4]; 4],
-) -> [u8; 16]
-    requires { ⌜ Tabulates (sub (widthOf c)) 256 (now table) ⌝ }
+fn run_branch(c: Cipher, b: Branch, keys: &[[u8; 8]; 97], s: [[u8; 4]; 4]) -> [u8; 16]
     ensures { λ r. ⌜ ((t : Tweakey) → RoundKeys (widthOf c) (wordsOf c) (startOf c b + branchOf c) t (now (keys .entry)) → r ≡ branch c b t s) ⌝ }
 {
     let at = start_of(c, b);
     let n = ciphers::branch_of(c);
-    ciphers::unload_state(c, runs::run(table, keys, at, n, enter_branch(c, b, s)))
+    ciphers::unload_state(c, run(c, keys, at, n, enter_branch(c, b, s)))
 }
 
 // The state at the fork, from a branch's block.
-fn unrun_branch(
-    c: Cipher,
-    b: Branch,
-    untable: &[u8; 256],
-    keys: &[[u8; 8]; 97],
-    h: [u8; 16],
-) -> [[u8; 4]; 4]
-    requires { ⌜ Tabulates (unsub (widthOf c)) 256 (now untable) ⌝ }
+fn unrun_branch(c: Cipher, b: Branch, keys: &[[u8; 8]; 97], h: [u8; 16]) -> [[u8; 4]; 4]
     ensures { λ r. ⌜ ((t : Tweakey) → RoundKeys (widthOf c) (wordsOf c) (startOf c b + branchOf c) t (now (keys .entry)) → r ≡ unbranch c b t h) ⌝ }
 {
     let at = start_of(c, b);
     let n = ciphers::branch_of(c);
-    enter_branch(
-        c,
-        b,
-        runs::unrun(untable, keys, at, n, ciphers::load_state(c, h)),
-    )
+    enter_branch(c, b, unrun(c, keys, at, n, ciphers::load_state(c, h)))
 }
 
 // The input block, from the state at the fork.
-fn from_fork(c: Cipher, untable: &[u8; 256], keys: &[[u8; 8]; 97], s: [[u8; 4]; 4]) -> [u8; 16]
-    requires { ⌜ Tabulates (unsub (widthOf c)) 256 (now untable) ⌝ }
+fn from_fork(c: Cipher, keys: &[[u8; 8]; 97], s: [[u8; 4]; 4]) -> [u8; 16]
     ensures { λ r. ⌜ ((t : Tweakey) → RoundKeys (widthOf c) (wordsOf c) (initOf c) t (now (keys .entry)) → r ≡ unforked c t s) ⌝ }
 {
     let n = ciphers::init_of(c);
-    ciphers::unload_state(c, runs::unrun(untable, keys, 0, n, s))
+    ciphers::unload_state(c, unrun(c, keys, 0, n, s))
+}
+
+// ---- two results at once, their rounds side by side
+
+// The first result of a call, and the second.
+struct Both {
+    first: [u8; 16],
+    second: [u8; 16],
+}
+
+// Both halves from the state at the fork.
+fn both_halves(c: Cipher, keys: &[[u8; 8]; 97], s: [[u8; 4]; 4]) -> Both
+    ensures { λ r. ⌜ ((t : Tweakey) → RoundKeys (widthOf c) (wordsOf c) (startOf c Far + branchOf c) t (now (keys .entry)) → (r .first ≡ branch c Near t s) × (r .second ≡ branch c Far t s)) ⌝ }
+{
+    let at = start_of(c, Branch::Near);
+    let n = ciphers::branch_of(c);
+    let mut far = enter_branch(c, Branch::Far, s);
+    let near = run_both(c, keys, at, n, s, &mut far);
+    let first = ciphers::unload_state(c, near);
+    let second = ciphers::unload_state(c, far);
+    Both { first, second }
+}
+
+// The input block from the state at the fork, and the block of a branch.
+fn both_ends(c: Cipher, b: Branch, keys: &[[u8; 8]; 97], s: [[u8; 4]; 4]) -> Both
+    ensures { λ r. ⌜ ((t : Tweakey) → RoundKeys (widthOf c) (wordsOf c) (startOf c b + branchOf c) t (now (keys .entry)) → (r .first ≡ unforked c t s) × (r .second ≡ branch c b t s)) ⌝ }
+{
+    let n = ciphers::init_of(c);
+    let at = start_of(c, b);
+    let m = ciphers::branch_of(c);
+    let mut other = enter_branch(c, b, s);
+    let input = run_apart(c, keys, n, at, m, s, &mut other);
+    let first = ciphers::unload_state(c, input);
+    let second = ciphers::unload_state(c, other);
+    Both { first, second }
 }
 
 // ---- the block calls
@@ -152,37 +173,22 @@ fn is_wanted(k: u32, want: u32) -> bool
 }
 
 // Half h from the state at the fork, or zeros where it was not asked for.
-fn half_if(
-    asked: bool,
-    c: Cipher,
-    h: u32,
-    table: &[u8; 256],
-    keys: &[[u8; 8]; 97],
-    s: [[u8; 4]; 4],
-) -> [u8; 16]
-    requires { ⌜ Tabulates (sub (widthOf c)) 256 (now table) ⌝ }
+fn half_if(asked: bool, c: Cipher, h: u32, keys: &[[u8; 8]; 97], s: [[u8; 4]; 4]) -> [u8; 16]
     ensures { λ r. ⌜ ((t : Tweakey) → (asked ≡ true → RoundKeys (widthOf c) (wordsOf c) (startOf c (sideOf h) + branchOf c) t (now (keys .entry))) → r ≡ given asked (branch c (sideOf h) t s)) ⌝ }
 {
     if asked {
         let b = side_of(h);
-        return run_branch(c, b, table, keys, s);
+        return run_branch(c, b, keys, s);
     }
     [0u8; 16]
 }
 
 // The input block from the state at the fork, or zeros where it was not asked for.
-fn input_if(
-    asked: bool,
-    c: Cipher,
-    untable: &[u8; 256],
-    keys: &[[u8; 8]; 97],
-    s: [[u8; 4]; 4],
-) -> [u8; 16]
-    requires { ⌜ Tabulates (unsub (widthOf c)) 256 (now untable) ⌝ }
+fn input_if(asked: bool, c: Cipher, keys: &[[u8; 8]; 97], s: [[u8; 4]; 4]) -> [u8; 16]
     ensures { λ r. ⌜ ((t : Tweakey) → RoundKeys (widthOf c) (wordsOf c) (initOf c) t (now (keys .entry)) → r ≡ given asked (unforked c t s)) ⌝ }
 {
     if asked {
-        return from_fork(c, untable, keys, s);
+        return from_fork(c, keys, s);
     }
     [0u8; 16]
 }
@@ -240,11 +246,24 @@ pub fn fork_by(c: Cipher, key: [u8; 16], tweak: [u8; 16], block: [u8; 16], want:
     let second = is_wanted(1, want);
     let far = takes_far(first, 0, second, 1);
     let m = reach_of(c, far);
-    let keys = ciphers::round_keys(c, m, ciphers::load_key(c, key, tweak));
-    let table = ciphers::table_of(c);
-    let s = to_fork(c, &table, &keys, block);
-    let half0 = half_if(first, c, 0, &table, &keys, s);
-    let half1 = half_if(second, c, 1, &table, &keys, s);
+    ciphers::bytes_known(&key);
+    ciphers::bytes_known(&tweak);
+    let mut keys = schedule::constants::room();
+    ciphers::lay_keys(c, &mut keys, m, ciphers::load_key(c, key, tweak));
+    let s = to_fork(c, &keys, block);
+    if want == 2 {
+        let both = both_halves(c, &keys, s);
+        let half0 = both.first;
+        let half1 = both.second;
+        return Forked {
+            number: 0,
+            half0,
+            half1,
+            rounds: fork_rounds(c, want),
+        };
+    }
+    let half0 = half_if(first, c, 0, &keys, s);
+    let half1 = half_if(second, c, 1, &keys, s);
     Forked {
         number: 0,
         half0,
@@ -315,12 +334,24 @@ pub fn unfork_by(
     let to = other_of(from);
     let far = takes_far(true, from, second, to);
     let m = reach_of(c, far);
-    let keys = ciphers::round_keys(c, m, ciphers::load_key(c, key, tweak));
-    let table = ciphers::table_of(c);
-    let untable = ciphers::untable_of(c);
-    let s = unrun_branch(c, side_of(from), &untable, &keys, block);
-    let input = input_if(first, c, &untable, &keys, s);
-    let other = half_if(second, c, to, &table, &keys, s);
+    ciphers::bytes_known(&key);
+    ciphers::bytes_known(&tweak);
+    let mut keys = schedule::constants::room();
+    ciphers::lay_keys(c, &mut keys, m, ciphers::load_key(c, key, tweak));
+    let s = unrun_branch(c, side_of(from), &keys, block);
+    if want == 2 {
+        let both = both_ends(c, side_of(to), &keys, s);
+        let input = both.first;
+        let other = both.second;
+        return Unforked {
+            number: 0,
+            input,
+            other,
+            rounds: unfork_rounds(c, want),
+        };
+    }
+    let input = input_if(first, c, &keys, s);
+    let other = half_if(second, c, to, &keys, s);
     Unforked {
         number: 0,
         input,

@@ -5,9 +5,9 @@ use mathlib.Core.List.{List}
 use Prim.Native.Nat.{ℕ, zero, suc, _+_, _/_, _%_, _<_}
 use native.Mathlib.Omega.{arith}
 use lib.ListN.{getD}
-use Rattle.cells.specs.Cells.{Width, size, sub, unsub}
+use Rattle.cells.specs.Cells.{Width, size, sub, unsub, LowCells}
 use Rattle.cells.proofs.Below.{Undoes}
-use Rattle.cells.proofs.Laws.{LowCells, sub-law, unsub-law, xor-low, small-low}
+use Rattle.cells.proofs.Laws.{sub-law, unsub-law, xor-low, small-low}
 use Rattle.cells.proofs.Xor.{xor-first, xor-last, xor-outer, xor-inner}
 use Rattle.rounds.specs.State.{State, cell, four, row, grid, subBy, addConstants, addTweakey, shiftRows, unshiftRows, mixColumns, unmixColumns, round, unround}
 

@@ -1,174 +1,102 @@
-// The state and the steps of a round, forward and back.
-// (The steps name each cell by row and column and never take a row whole: so the compiler keeps the cells apart.)
+// The steps of a round on a state of four rows, each row a word of four cells, forward and back. (A row turned is a word rotated, and a
+// column mixed is four words xored. The cells themselves, `cells::words`, are worked where rounds follow each other, in `runs`: there the
+// compiler works the four rows at once.)
+// A word holds complements of cells (specs/Words.antt). What a round adds to rows 2 and 3 turns these rows over, and mixing the columns turns
+// them back.
+pub mod words;
+
 ghost use mathlib.Core.Path.{_≡_};
-ghost use Prim.Native.Nat.{ℕ};
-ghost use Rattle.cells.specs.Cells.{Width, Tabulates, sub, unsub};
-ghost use Rattle.rounds.specs.State.{subBy, addConstants, addTweakey, shiftRows, unshiftRows, mixColumns, unmixColumns, round, unround};
+ghost use Rattle.cells.specs.Words.{lane};
+ghost use Rattle.rounds.specs.State.{four, row, shiftRows, unshiftRows, mixColumns, unmixColumns};
+ghost use Rattle.rounds.specs.Words.{lanes, shown, added, linear, unlinear, LowRow, pairRow, linearBy};
+use words::lower_half;
+use words::upper_half;
 
-// A cell by the table lent.
-fn sub_cell(table: &[u8; 256], x: u8) -> u8
-    ensures { λ r. ⌜ ((f : ℕ → ℕ) → Tabulates f 256 (now (table .entry)) → r ≡ f x) ⌝ }
+// A row turns right by one cell.
+fn right_1(x: u32) -> u32
+    ensures { λ r. ⌜ row (lane r) ≡ four (lane x 3) (lane x 0) (lane x 1) (lane x 2) ⌝ }
 {
-    table[x as usize]
+    (x << 8) | (x >> 24)
 }
 
-// Each cell by the table lent.
-fn sub_cells(table: &[u8; 256], s: [[u8; 4]; 4]) -> [[u8; 4]; 4]
-    ensures { λ r. ⌜ ((f : ℕ → ℕ) → Tabulates f 256 (now (table .entry)) → r ≡ subBy f s) ⌝ }
+// By two.
+fn right_2(x: u32) -> u32
+    ensures { λ r. ⌜ row (lane r) ≡ four (lane x 2) (lane x 3) (lane x 0) (lane x 1) ⌝ }
 {
-    [
-        [
-            sub_cell(table, s[0][0]),
-            sub_cell(table, s[0][1]),
-            sub_cell(table, s[0][2]),
-            sub_cell(table, s[0][3]),
-        ],
-        [
-            sub_cell(table, s[1][0]),
-            sub_cell(table, s[1][1]),
-            sub_cell(table, s[1][2]),
-            sub_cell(table, s[1][3]),
-        ],
-        [
-            sub_cell(table, s[2][0]),
-            sub_cell(table, s[2][1]),
-            sub_cell(table, s[2][2]),
-            sub_cell(table, s[2][3]),
-        ],
-        [
-            sub_cell(table, s[3][0]),
-            sub_cell(table, s[3][1]),
-            sub_cell(table, s[3][2]),
-            sub_cell(table, s[3][3]),
-        ],
-    ]
+    (x << 16) | (x >> 16)
 }
 
-// The round's constant k, and 2 and 2.
-fn add_constants(k: u8, s: [[u8; 4]; 4]) -> [[u8; 4]; 4]
-    ensures { λ r. ⌜ r ≡ addConstants k s ⌝ }
+// By three, which is left by one.
+fn right_3(x: u32) -> u32
+    ensures { λ r. ⌜ row (lane r) ≡ four (lane x 1) (lane x 2) (lane x 3) (lane x 0) ⌝ }
 {
-    [
-        [s[0][0] ^ (k % 16), s[0][1], s[0][2] ^ 2, s[0][3]],
-        [s[1][0] ^ (k / 16), s[1][1], s[1][2], s[1][3]],
-        [s[2][0] ^ 2, s[2][1], s[2][2], s[2][3]],
-        [s[3][0], s[3][1], s[3][2], s[3][3]],
-    ]
-}
-
-// The round's key into the top two rows.
-fn add_tweakey(t: &[u8; 8], s: [[u8; 4]; 4]) -> [[u8; 4]; 4]
-    ensures { λ r. ⌜ r ≡ addTweakey (now (t .entry)) s ⌝ }
-{
-    [
-        [
-            s[0][0] ^ t[0],
-            s[0][1] ^ t[1],
-            s[0][2] ^ t[2],
-            s[0][3] ^ t[3],
-        ],
-        [
-            s[1][0] ^ t[4],
-            s[1][1] ^ t[5],
-            s[1][2] ^ t[6],
-            s[1][3] ^ t[7],
-        ],
-        [s[2][0], s[2][1], s[2][2], s[2][3]],
-        [s[3][0], s[3][1], s[3][2], s[3][3]],
-    ]
+    (x << 24) | (x >> 8)
 }
 
 // Rows turn right by 0, 1, 2, 3.
-fn shift_rows(s: [[u8; 4]; 4]) -> [[u8; 4]; 4]
-    ensures { λ r. ⌜ r ≡ shiftRows s ⌝ }
+fn shift_rows(s: [u32; 4]) -> [u32; 4]
+    ensures { λ r. ⌜ lanes r ≡ shiftRows (lanes s) ⌝ }
 {
-    [
-        [s[0][0], s[0][1], s[0][2], s[0][3]],
-        [s[1][3], s[1][0], s[1][1], s[1][2]],
-        [s[2][2], s[2][3], s[2][0], s[2][1]],
-        [s[3][1], s[3][2], s[3][3], s[3][0]],
-    ]
+    [s[0], right_1(s[1]), right_2(s[2]), right_3(s[3])]
 }
 
 // Rows turn left by 0, 1, 2, 3.
-fn unshift_rows(s: [[u8; 4]; 4]) -> [[u8; 4]; 4]
-    ensures { λ r. ⌜ r ≡ unshiftRows s ⌝ }
+fn unshift_rows(s: [u32; 4]) -> [u32; 4]
+    ensures { λ r. ⌜ lanes r ≡ unshiftRows (lanes s) ⌝ }
 {
-    [
-        [s[0][0], s[0][1], s[0][2], s[0][3]],
-        [s[1][1], s[1][2], s[1][3], s[1][0]],
-        [s[2][2], s[2][3], s[2][0], s[2][1]],
-        [s[3][3], s[3][0], s[3][1], s[3][2]],
-    ]
+    [s[0], right_3(s[1]), right_2(s[2]), right_1(s[3])]
 }
 
 // Columns (a, b, c, d) become (a ^ c ^ d, a, b ^ c, a ^ c).
-fn mix_columns(s: [[u8; 4]; 4]) -> [[u8; 4]; 4]
-    ensures { λ r. ⌜ r ≡ mixColumns s ⌝ }
+fn mix_columns(s: [u32; 4]) -> [u32; 4]
+    ensures { λ r. ⌜ lanes r ≡ mixColumns (lanes s) ⌝ }
 {
-    [
-        [
-            s[0][0] ^ s[2][0] ^ s[3][0],
-            s[0][1] ^ s[2][1] ^ s[3][1],
-            s[0][2] ^ s[2][2] ^ s[3][2],
-            s[0][3] ^ s[2][3] ^ s[3][3],
-        ],
-        [s[0][0], s[0][1], s[0][2], s[0][3]],
-        [
-            s[1][0] ^ s[2][0],
-            s[1][1] ^ s[2][1],
-            s[1][2] ^ s[2][2],
-            s[1][3] ^ s[2][3],
-        ],
-        [
-            s[0][0] ^ s[2][0],
-            s[0][1] ^ s[2][1],
-            s[0][2] ^ s[2][2],
-            s[0][3] ^ s[2][3],
-        ],
-    ]
+    [s[0] ^ s[2] ^ s[3], s[0], s[1] ^ s[2], s[0] ^ s[2]]
 }
 
 // Columns, back.
-fn unmix_columns(s: [[u8; 4]; 4]) -> [[u8; 4]; 4]
-    ensures { λ r. ⌜ r ≡ unmixColumns s ⌝ }
+fn unmix_columns(s: [u32; 4]) -> [u32; 4]
+    ensures { λ r. ⌜ lanes r ≡ unmixColumns (lanes s) ⌝ }
 {
-    [
-        [s[1][0], s[1][1], s[1][2], s[1][3]],
-        [
-            s[2][0] ^ (s[1][0] ^ s[3][0]),
-            s[2][1] ^ (s[1][1] ^ s[3][1]),
-            s[2][2] ^ (s[1][2] ^ s[3][2]),
-            s[2][3] ^ (s[1][3] ^ s[3][3]),
-        ],
-        [
-            s[1][0] ^ s[3][0],
-            s[1][1] ^ s[3][1],
-            s[1][2] ^ s[3][2],
-            s[1][3] ^ s[3][3],
-        ],
-        [
-            s[0][0] ^ s[3][0],
-            s[0][1] ^ s[3][1],
-            s[0][2] ^ s[3][2],
-            s[0][3] ^ s[3][3],
-        ],
-    ]
+    [s[1], s[2] ^ (s[1] ^ s[3]), s[1] ^ s[3], s[0] ^ s[3]]
 }
 
-// One round with the constant k and the key t, the cells by the table lent, which is the forward one.
-pub fn round_with(table: &[u8; 256], k: u8, t: &[u8; 8], s: [[u8; 4]; 4]) -> [[u8; 4]; 4]
-    ensures { λ r. ⌜ ((w : Width) → Tabulates (sub w) 256 (now (table .entry)) → r ≡ round w k (now (t .entry)) s) ⌝ }
+// A word into each row.
+fn add_rows(a: u32, b: u32, c: u32, d: u32, s: [u32; 4]) -> [u32; 4]
+    ensures { λ r. ⌜ lanes r ≡ added (row (lane a)) (row (lane b)) (row (lane c)) (row (lane d)) (lanes s) ⌝ }
 {
-    mix_columns(shift_rows(add_tweakey(t, add_constants(k, sub_cells(table, s)))))
+    [s[0] ^ a, s[1] ^ b, s[2] ^ c, s[3] ^ d]
 }
 
-// One round back, with the backward table.
-pub fn unround_with(table: &[u8; 256], k: u8, t: &[u8; 8], s: [[u8; 4]; 4]) -> [[u8; 4]; 4]
-    ensures { λ r. ⌜ ((w : Width) → Tabulates (unsub w) 256 (now (table .entry)) → r ≡ unround w k (now (t .entry)) s) ⌝ }
+// What follows the cells in a round: constants and key, which t holds but for the 2 in row 2, then rows and columns.
+pub fn linear_with(t: &[u8; 8], s: [u32; 4]) -> [u32; 4]
+    ensures { λ r. ⌜ shown r ≡ linear (now (t .entry)) (shown s) ⌝ }
 {
-    sub_cells(
-        table,
-        add_constants(k, add_tweakey(t, unshift_rows(unmix_columns(s)))),
+    mix_columns(shift_rows(add_rows(upper_half(t), lower_half(t), 0xfffffffd, 0xffffffff, s)))
+}
+
+// Back: columns and rows, then key and constants.
+pub fn unlinear_with(t: &[u8; 8], s: [u32; 4]) -> [u32; 4]
+    ensures { λ r. ⌜ shown r ≡ unlinear (now (t .entry)) (shown s) ⌝ }
+{
+    add_rows(
+        upper_half(t),
+        lower_half(t),
+        0xfffffffd,
+        0xffffffff,
+        unshift_rows(unmix_columns(s)),
     )
+}
+
+// Two states of nibbles in one, the second in the high nibbles: t is added to the first, u to the second.
+pub fn linear_with_both(t: &[u8; 8], u: &[u8; 8], s: [u32; 4]) -> [u32; 4]
+    ensures { λ r. ⌜ (LowRow (now (u .entry)) → shown r ≡ linearBy 0x22 (pairRow (now (t .entry)) (now (u .entry))) (shown s)) ⌝ }
+{
+    mix_columns(shift_rows(add_rows(
+        upper_half(t) ^ (upper_half(u) << 4),
+        lower_half(t) ^ (lower_half(u) << 4),
+        0xffffffdd,
+        0xffffffff,
+        s,
+    )))
 }

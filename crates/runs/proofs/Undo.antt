@@ -1,21 +1,15 @@
 -- Rounds in a row undone, and rounds back undone, over the width and the number of words; and what they make of cells are
 -- cells. Assumes nothing.
 use mathlib.Core.Path.{_≡_, refl, ap, _∙_}
-use Prim.Native.Nat.{ℕ, zero, suc, _<_}
-use native.Mathlib.Omega.{arith}
-use Rattle.cells.specs.Cells.{Width, Words}
-use Rattle.cells.proofs.Laws.{LowCells}
+use Prim.Native.Nat.{ℕ, zero, suc}
+use Rattle.cells.specs.Cells.{Width, Words, LowCells}
 use Rattle.schedule.specs.declared.Tweakey.{Tweakey}
 use Rattle.schedule.specs.Constants.{constant}
 use Rattle.schedule.specs.Schedule.{roundKey, advance}
-use Rattle.schedule.proofs.Low.{advance-low, key-low}
+use Rattle.schedule.proofs.Low.{constant-low, advance-low, key-low}
 use Rattle.rounds.specs.State.{State}
 use Rattle.rounds.proofs.Undo.{Cells, round-low, round-square, unround-low, unround-square, unround-round, round-unround}
 use Rattle.runs.specs.Runs.{rounds, unrounds, roundAt, unroundAt}
-
-constant-low : (q : ℕ) → constant q < 128
-unfolding constant
-constant-low q = omega arith
 
 module _ (w : Width) (n : Words) where
   -- ---- one round, at a tweakey of cells

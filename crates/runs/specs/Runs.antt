@@ -2,8 +2,8 @@
 -- paper. Assumes nothing.
 use mathlib.Core.Path.{_≡_}
 use mathlib.Core.List.{List}
-use Prim.Native.Nat.{ℕ, zero, suc, _+_}
-use Rattle.cells.specs.Cells.{Width, Words, Tabulates, sub, unsub}
+use Prim.Native.Nat.{ℕ, zero, suc}
+use Rattle.cells.specs.Cells.{Width, Words}
 use Rattle.schedule.specs.declared.Tweakey.{Tweakey}
 use Rattle.schedule.specs.Constants.{constant}
 use Rattle.schedule.specs.Schedule.{roundKey, advance, RoundKeys}
@@ -26,12 +26,9 @@ unfoldable pub unrounds : Width → Words → ℕ → Tweakey → State → Stat
 unrounds w n zero t s = s
 unrounds w n (suc m) t s = unrounds w n m t (unroundAt w n (advance w n m t) s)
 
--- ---- what the code is told: with the forward table of a width and the keys of a tweakey's first rounds, r is s after count
--- rounds from round `from` on; likewise back
-pub record Ran (table : List ℕ) (keys : List (List ℕ)) (from count : ℕ) (s r : State) : Type 0 where
-  pub by : (w : Width) (n : Words) (t : Tweakey) → Tabulates (sub w) 256 table → RoundKeys w n (from + count) t keys
-      → r ≡ rounds w n count (advance w n from t) s
+-- ---- what the code is told: with what a tweakey's first m rounds add, r is s after count rounds from round `from` on; likewise back
+pub record Ran (w : Width) (m : ℕ) (keys : List (List ℕ)) (from count : ℕ) (s r : State) : Type 0 where
+  pub by : (n : Words) (t : Tweakey) → RoundKeys w n m t keys → r ≡ rounds w n count (advance w n from t) s
 
-pub record Unran (table : List ℕ) (keys : List (List ℕ)) (from count : ℕ) (s r : State) : Type 0 where
-  pub by : (w : Width) (n : Words) (t : Tweakey) → Tabulates (unsub w) 256 table → RoundKeys w n (from + count) t keys
-      → r ≡ unrounds w n count (advance w n from t) s
+pub record Unran (w : Width) (m : ℕ) (keys : List (List ℕ)) (from count : ℕ) (s r : State) : Type 0 where
+  pub by : (n : Words) (t : Tweakey) → RoundKeys w n m t keys → r ≡ unrounds w n count (advance w n from t) s

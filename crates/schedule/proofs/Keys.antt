@@ -1,18 +1,21 @@
 -- What the code that lays round keys keeps, over the width and the number of words: two keys more, sixteen more, and behind the
 -- first row all to the round at which the tweakey stands. Assumes nothing.
-use mathlib.Core.Path.{_≡_, refl, sym, ap, _∙_, subst, subst⁻¹}
+use mathlib.Core.Path.{_≡_, refl, sym, ap, ap₂, _∙_, subst, subst⁻¹}
 use Prim.Native.Nat.{ℕ, zero, suc, _+_, _*_, _-_, _<_, _≤_}
 use mathlib.Core.List.{List, []}
+use mathlib.Core.Logic.{_≢_}
 use native.Mathlib.Decide.{decLt}
+use native.Mathlib.Numerals.{add-one}
 use native.Mathlib.Omega.{arith}
 use borrow.Author.Count.{below-none, below-more}
 use lib.Dec.{T, ltb, ltb→lt}
-use lib.ListN.{length, getD, set, length-set}
+use lib.ListN.{length, getD, length-set}
 use lib.Seq.{getD-set-same, getD-set-other}
-use Rattle.cells.specs.Cells.{Width, Words}
+use Rattle.cells.specs.Cells.{Width, Words, LowCells}
 use Rattle.schedule.specs.declared.Tweakey.{Tweakey}
-use Rattle.schedule.specs.Schedule.{keyRow, roundKey, advance, RoundKeys}
-use Rattle.schedule.specs.Sixteen.{Sums, moved, pairLaid, Laid}
+use Rattle.schedule.specs.Constants.{constant, constantRow}
+use Rattle.schedule.specs.Schedule.{keyRow, roundKey, advance, xorRow, Room, RoundKeys}
+use Rattle.schedule.specs.Sixteen.{Sums, moved, rowLaid, pairLaid, Laid}
 use Rattle.schedule.proofs.Places.{advance-at, advance-add}
 use Rattle.schedule.proofs.Sixteen.{first-key, second-key}
 
@@ -23,18 +26,25 @@ keyAt w n t r = roundKey n ((advance w n r t) .cells)
 -- ---- sixteen keys
 
 laid-none : {w : Width} {n : Words} {t : Tweakey} {keys : List (List ℕ)} → Laid w n t 0 keys keys
-laid-none = record { long = refl; front = λ r h. refl; rows = below-none _ }
+laid-none = record { long = refl; front = λ r h. refl; rows = below-none _; behind = λ r h. refl }
 
 laid-more
     : {w : Width} {n : Words} {t : Tweakey} {b : ℕ} {x : List ℕ} {before keys : List (List ℕ)} (i : ℕ)
-    → i ≡ t .at + b + 1 → Laid w n t b before keys → i < length before → x ≡ keyAt w n t (b + 1) → Laid w n t (b + 1) before (set keys i x)
+    → i ≡ t .at + b + 1 → Laid w n t b before keys → i < length before → x ≡ keyAt w n t (b + 1) → Laid w n t (b + 1) before (rowLaid i x keys)
 laid-more {w} {n} {t} {b} {x} {before} {keys} i q s h e = record {
-  long = length-set keys i x ∙ s .long;
-  front = λ r p. getD-set-other keys i r x [] (λ o. omega arith) ∙ s .front r p;
-  rows = below-more (λ (k : ℕ). getD (set keys i x) (t .at + k + 1) [] ≡ keyAt w n t (k + 1)) b
-      (λ k p. getD-set-other keys i (t .at + k + 1) x [] (λ o. omega arith) ∙ s .rows k p)
-      (ap (λ (j : ℕ). getD (set keys i x) j []) (sym q) ∙ getD-set-same keys i x [] (omega (arith, s .long)) ∙ e);
-}
+  long = length-set keys i laid ∙ s .long;
+  front = λ r p. other r (λ o. omega arith) ∙ s .front r p;
+  rows = below-more (λ (k : ℕ). getD (rowLaid i x keys) (t .at + k + 1) [] ≡ xorRow (getD before (t .at + k + 1) []) (keyAt w n t (k + 1))) b
+      (λ k p. other (t .at + k + 1) (λ o. omega arith) ∙ s .rows k p)
+      (subst (λ (j : ℕ). getD (rowLaid i x keys) j [] ≡ xorRow (getD before j []) (keyAt w n t (b + 1))) q
+      (getD-set-same keys i laid [] (omega (arith, s .long)) ∙ ap₂ xorRow (s .behind i (omega arith)) e));
+  behind = λ r p. other r (λ o. omega arith) ∙ s .behind r (omega arith);
+} where
+  laid : List ℕ
+  laid = xorRow (getD keys i []) x
+
+  other : (r : ℕ) → r ≢ i → getD (rowLaid i x keys) r [] ≡ getD keys r []
+  other r = getD-set-other keys i r laid []
 
 -- what the eight calls of `lay_two` do
 abbrev pub LaidTwo : Tweakey → List (List ℕ) → ℕ → List (List ℕ) → List (List ℕ) → Type 0
@@ -65,61 +75,87 @@ laid-sixteen s h e₀ e₁ e₂ e₃ e₄ e₅ e₆ e₇ =
 
 -- ---- all keys
 
+-- where a tweakey stands that a rounds led to, and where m more lead
+pub led-at : (w : Width) (n : Words) (a : ℕ) (t u : Tweakey) → u ≡ advance w n a t → u .at ≡ t .at + a
+led-at w n a t u e = ap (λ (x : Tweakey). x .at) e ∙ advance-at w n a t
+
+led-on : (w : Width) (n : Words) (a : ℕ) (t u : Tweakey) → u ≡ advance w n a t → (m : ℕ) → advance w n m u ≡ advance w n (a + m) t
+led-on w n a t u e m = ap (advance w n m) e ∙ advance-add w n a m t
+
+-- first the keys of a rounds, then those of b more
+laid-on
+    : {w : Width} {n : Words} {t u : Tweakey} {a b : ℕ} {before keys keys′ : List (List ℕ)}
+    → Laid w n t a before keys → u ≡ advance w n a t → Laid w n u b keys keys′ → Laid w n t (a + b) before keys′
+laid-on {w} {n} {t} {u} {a} {b} {before} {keys} {keys′} s e l = record {
+  long = l .long ∙ s .long;
+  front = λ r p. l .front r (omega (arith, here)) ∙ s .front r p;
+  rows = λ k p. elim (decLt k a) [
+    | yes h ↦ l .front (t .at + k + 1) (omega (arith, here)) ∙ s .rows k h
+    | no h ↦ let j = k - a in
+        let r : u .at + j + 1 ≡ t .at + k + 1 = omega (arith, here) in
+        let m : a + (j + 1) ≡ k + 1 = omega arith in
+        subst (λ (i : ℕ). getD keys′ i [] ≡ xorRow (getD before i []) (keyAt w n t (k + 1))) r
+        (l .rows j (omega arith)
+        ∙ ap₂ xorRow (s .behind (u .at + j + 1) (omega (arith, here)))
+        (ap (λ (x : Tweakey). roundKey n (x .cells)) (led-on w n a t u e (j + 1)) ∙ ap (keyAt w n t) m))
+  ];
+  behind = λ r p. l .behind r (omega (arith, here)) ∙ s .behind r (omega arith);
+} where
+  here : u .at ≡ t .at + a
+  here = led-at w n a t u e
+
 -- t has gone on to u by turns of sixteen rounds, and the keys of the rounds to there are laid, but for the first
-pub record Keys (w : Width) (n : Words) (t u : Tweakey) (keys : List (List ℕ)) : Type 0 where
+pub record Keys (w : Width) (n : Words) (t u : Tweakey) (before keys : List (List ℕ)) : Type 0 where
   pub turns : ℕ
   pub whole : u .at ≡ 16 * turns
   pub most : turns ≤ 6
   pub now : u ≡ advance w n (u .at) t
-  pub long : length keys ≡ 97
-  pub rows : (r : ℕ) → 0 < r → r < u .at + 1 → getD keys r [] ≡ keyAt w n t r
-
--- where a turn leads
-pub turn-at : (w : Width) (n : Words) (u v : Tweakey) → v ≡ advance w n 16 u → v .at ≡ u .at + 16
-turn-at w n u v e = ap (λ (x : Tweakey). x .at) e ∙ advance-at w n 16 u
+  pub laid : Laid w n t (u .at) before keys
 
 -- before the first turn
-pub keys-none : (w : Width) (n : Words) (t : Tweakey) (keys : List (List ℕ)) → t .at ≡ 0 → length keys ≡ 97 → Keys w n t t keys
+pub keys-none : (w : Width) (n : Words) (t : Tweakey) (keys : List (List ℕ)) → t .at ≡ 0 → Keys w n t t keys keys
 unfolding advance
-keys-none w n t keys z l = record {
+keys-none w n t keys z = record {
   turns = 0;
   whole = z;
   most = omega arith;
   now = ap (λ (m : ℕ). advance w n m t) (sym z);
-  long = l;
-  rows = λ r p q. absurd (omega (arith, z));
+  laid = subst⁻¹ (λ (b : ℕ). Laid w n t b keys keys) z laid-none;
 }
 
-module _ {w : Width} {n : Words} {t u : Tweakey} {keys : List (List ℕ)} (s : Keys w n t u keys) where
+module _ {w : Width} {n : Words} {t u : Tweakey} {before keys : List (List ℕ)} (s : Keys w n t u before keys) where
   -- a turn
   pub keys-more
-      : {v : Tweakey} {keys′ : List (List ℕ)} → u .at < 86 → (v ≡ advance w n 16 u) × Laid w n u 16 keys keys′ → Keys w n t v keys′
+      : {v : Tweakey} {keys′ : List (List ℕ)} → u .at < 86 → (v ≡ advance w n 16 u) × Laid w n u 16 keys keys′ → Keys w n t v before keys′
   keys-more {v} {keys′} h (e, l) = record {
     turns = s .turns + 1;
     whole = omega (arith, s .whole, on);
     most = omega (arith, s .whole);
-    now = e ∙ onward 16 ∙ ap (λ (k : ℕ). advance w n k t) (sym on);
-    long = l .long ∙ s .long;
-    rows = λ r z p. elim (decLt r (u .at + 1)) [
-      | yes a ↦ l .front r a ∙ s .rows r z a
-      | no a ↦ let k = r - (u .at + 1) in
-          let e : u .at + k + 1 ≡ r = omega arith in
-          subst (λ (i : ℕ). getD keys′ i [] ≡ keyAt w n t i) e
-          (l .rows k (omega (arith, on)) ∙ ap (λ (x : Tweakey). roundKey n (x .cells)) (onward (k + 1)) ∙ ap (keyAt w n t) (omega arith))
-    ];
+    now = e ∙ led-on w n (u .at) t u (s .now) 16 ∙ ap (λ (k : ℕ). advance w n k t) (sym on);
+    laid = subst⁻¹ (λ (b : ℕ). Laid w n t b before keys′) on (laid-on (s .laid) (s .now) l);
   } where
-    onward : (m : ℕ) → advance w n m u ≡ advance w n (u .at + m) t
-    onward m = ap (advance w n m) (s .now) ∙ advance-add w n (u .at) m t
-
     on : v .at ≡ u .at + 16
-    on = turn-at w n u v e
+    on = led-at w n 16 u v e
 
   -- the first key, behind the loop
-  pub keys-all : {m : ℕ} {keys′ : List (List ℕ)} → t .at ≡ 0 → m ≤ u .at + 1 → keys′ ≡ set keys 0 (keyRow n (t .cells)) → RoundKeys w n m t keys′
+  pub keys-all
+      : {m : ℕ} {keys′ : List (List ℕ)}
+      → (m ≤ 87) × (t .at ≡ 0) × LowCells w (t .cells) × Room before → m ≤ u .at + 1 → keys′ ≡ rowLaid 0 (keyRow n (t .cells)) keys
+      → RoundKeys w n m t keys′
   unfolding roundKey advance
-  keys-all {m} {keys′} z h e = record { first = z; at = laid } where
-    laid : (k : ℕ) → k < m → getD keys′ k [] ≡ keyAt w n t k
-    laid zero p = ap (λ (l : List (List ℕ)). getD l 0 []) e ∙ getD-set-same keys 0 (keyRow n (t .cells)) [] (omega (arith, s .long))
+  keys-all {m} {keys′} (fit, z, low, room) h e = record { first = z; low = low; at = λ k p. ap (λ (l : List (List ℕ)). getD l k []) e ∙ laid k p } where
+    first : List ℕ
+    first = keyRow n (t .cells)
+
+    row : List ℕ
+    row = xorRow (getD keys 0 []) first
+
+    laid : (k : ℕ) → k < m → getD (rowLaid 0 first keys) k [] ≡ xorRow (constantRow (constant k)) (keyAt w n t k)
+    laid zero p =
+        getD-set-same keys 0 row [] (omega (arith, s .laid .long, room .long))
+        ∙ ap (λ (c : List ℕ). xorRow c first) (s .laid .front 0 (omega arith) ∙ room .at 0 (omega arith))
     laid (suc k) p =
-        ap (λ (l : List (List ℕ)). getD l (suc k) []) e ∙ getD-set-other keys 0 (suc k) (keyRow n (t .cells)) [] (λ q. omega arith)
-        ∙ s .rows (suc k) (omega arith) (omega arith)
+        let i : t .at + k + 1 ≡ suc k = omega (arith, z) in
+        getD-set-other keys 0 (suc k) row [] (λ q. omega arith)
+        ∙ subst (λ (j : ℕ). getD keys j [] ≡ xorRow (getD before j []) (keyAt w n t (k + 1))) i (s .laid .rows k (omega arith))
+        ∙ ap₂ xorRow (room .at (suc k) (omega arith)) (ap (keyAt w n t) (add-one k))

@@ -1,14 +1,20 @@
 -- What the schedule makes of cells are cells, over the width. Assumes nothing.
-use Prim.Native.Nat.{ℕ, zero, suc, _+_, _<_}
+use Prim.Native.Nat.{ℕ, zero, suc, _+_, _/_, _%_, _<_}
 use mathlib.Core.List.{List, [], _∷_}
 use native.Mathlib.Omega.{arith}
-use lib.ListN.{set}
-use Rattle.cells.specs.Cells.{Width, Words, Two, Three, size, step2, step3}
+use lib.ListN.{getD, set}
+use lib.Bits.{bitXor}
+use Rattle.cells.specs.Cells.{Width, Words, Two, Three, size, step2, step3, LowCells}
 use Rattle.cells.proofs.Below.{tab}
-use Rattle.cells.proofs.Laws.{LowCells, step2-law, step3-law, xor-low, small-low}
+use Rattle.cells.proofs.Laws.{step2-law, step3-law, xor-low, small-low}
 use Rattle.schedule.specs.declared.Tweakey.{Tweakey}
-use Rattle.schedule.specs.Schedule.{keyCell, roundKey, permutedWords, stepped, nextCells, advance}
+use Rattle.schedule.specs.Constants.{constant, constantRow}
+use Rattle.schedule.specs.Schedule.{keyCell, roundKey, xorRow, permutedWords, stepped, nextCells, advance}
 use Rattle.schedule.proofs.Trails.{origin}
+
+pub constant-low : (q : ℕ) → constant q < 128
+unfolding constant
+constant-low q = omega arith
 
 module _ (w : Width) where
   -- a list of m values of f, as the permuted words and a round's key are
@@ -51,3 +57,20 @@ module _ (w : Width) where
   pub key-low : (n : Words) (t : List ℕ) → LowCells w t → LowCells w (roundKey n t)
   unfolding roundKey
   key-low n t h = tab-low (keyCell n t) (cell-low n t h) 8 0
+
+  -- what a round adds, constant and key
+  pub row-low : (k : ℕ) (r : List ℕ) → k < 128 → LowCells w r → LowCells w (xorRow (constantRow k) r)
+  row-low k r h l = tab-low (λ j. bitXor (getD (constantRow k) j 0) (getD r j 0)) (λ j. xor-low w _ _ (parts j) (l j)) 8 0 where
+    zeros : (j : ℕ) → getD (0 ∷ 0 ∷ 0 ∷ []) j 0 < size w
+    zeros zero = small-low w 0 (omega arith)
+    zeros (suc zero) = small-low w 0 (omega arith)
+    zeros (suc (suc zero)) = small-low w 0 (omega arith)
+    zeros (suc (suc (suc j))) = small-low w 0 (omega arith)
+
+    parts : LowCells w (constantRow k)
+    parts zero = small-low w (k % 16) (omega arith)
+    parts (suc zero) = small-low w 0 (omega arith)
+    parts (suc (suc zero)) = small-low w 2 (omega arith)
+    parts (suc (suc (suc zero))) = small-low w 0 (omega arith)
+    parts (suc (suc (suc (suc zero)))) = small-low w (k / 16) (omega arith)
+    parts (suc (suc (suc (suc (suc j))))) = zeros j

@@ -1,5 +1,6 @@
 -- The round constants (document 01, "Constants"; 001, section 4.1). Assumes nothing.
-use Prim.Native.Nat.{ℕ, zero, suc, _+_, _*_, _%_}
+use Prim.Native.Nat.{ℕ, zero, suc, _+_, _*_, _/_, _%_}
+use mathlib.Core.List.{List, [], _∷_}
 use Rattle.cells.specs.Cells.{bit}
 
 -- the 7-bit number: shift left by one, new lowest bit = bit 6 xor bit 5 xor 1
@@ -14,3 +15,7 @@ stepsFrom0 (suc n) = stepConstant (stepsFrom0 n)
 -- the constant of the round that n others came before
 unfoldable pub constant : ℕ → ℕ
 constant n = stepsFrom0 (suc n)
+
+-- as it goes into the top two rows: its low four bits to row 0 column 0, its high three to row 1 column 0, and 2 to row 0 column 2 (01)
+abbrev pub constantRow : ℕ → List ℕ
+constantRow k = k % 16 ∷ 0 ∷ 2 ∷ 0 ∷ k / 16 ∷ 0 ∷ 0 ∷ 0 ∷ []

@@ -6,7 +6,7 @@ use mathlib.Core.List.{List, [], _∷_, _++_, map}
 use lib.ListN.{length, getD, set}
 use Rattle.cells.specs.Cells.{Width, Words, Two, Three, step2, step3}
 use Rattle.schedule.specs.declared.Tweakey.{Tweakey}
-use Rattle.schedule.specs.Schedule.{permuted, unmoved, keyCell, roundKey, advance}
+use Rattle.schedule.specs.Schedule.{permuted, unmoved, keyCell, roundKey, xorRow, advance}
 
 -- f so many times
 abbrev pub times : (ℕ → ℕ) → ℕ → ℕ → ℕ
@@ -38,12 +38,17 @@ upper s = getD s 0 0 ∷ getD s 1 0 ∷ getD s 2 0 ∷ getD s 3 0 ∷ getD s 4 0
 abbrev pub lower : List ℕ → List ℕ
 lower s = getD s 8 0 ∷ getD s 9 0 ∷ getD s 10 0 ∷ getD s 11 0 ∷ getD s 12 0 ∷ getD s 13 0 ∷ getD s 14 0 ∷ getD s 15 0 ∷ []
 
+-- a key xored into row i
+abbrev pub rowLaid : ℕ → List ℕ → List (List ℕ) → List (List ℕ)
+rowLaid i k keys = set keys i (xorRow (getD keys i []) k)
+
 -- the keys of two rounds laid, the first of them round i's: the lower half of s, then the upper one
 abbrev pub pairLaid : ℕ → List ℕ → List (List ℕ) → List (List ℕ)
-pairLaid i s keys = set (set keys i (lower s)) (i + 1) (upper s)
+pairLaid i s keys = rowLaid (i + 1) (upper s) (rowLaid i (lower s) keys)
 
--- the keys of the b rounds after t's are laid, each in its row; the rows to t's own are as they were
+-- the keys of the b rounds after t's are laid, each into its row; the rows to t's own, and those behind, are as they were
 pub record Laid (w : Width) (n : Words) (t : Tweakey) (b : ℕ) (before keys : List (List ℕ)) : Type 0 where
   pub long : length keys ≡ length before
   pub front : (r : ℕ) → r < t .at + 1 → getD keys r [] ≡ getD before r []
-  pub rows : (k : ℕ) → k < b → getD keys (t .at + k + 1) [] ≡ roundKey n ((advance w n (k + 1) t) .cells)
+  pub rows : (k : ℕ) → k < b → getD keys (t .at + k + 1) [] ≡ xorRow (getD before (t .at + k + 1) []) (roundKey n ((advance w n (k + 1) t) .cells))
+  pub behind : (r : ℕ) → t .at + b < r → getD keys r [] ≡ getD before r []

@@ -1,15 +1,16 @@
-// The tweakey, how it goes sixteen rounds on at once, the keys that the rounds take of it, and the round constants.
+// The tweakey, how it goes sixteen rounds on at once, and the keys that the rounds take of it, laid on the round constants.
 // Two rounds step every cell of words 2 and 3 once, and move the cells of a word's upper half and of its lower half among
 // themselves; after sixteen rounds each stands where it stood. So cells are stepped where they stand, and only a key is moved.
 // A room for round keys has 97 rows: the first round's, and six times sixteen, for the 87 rounds of the longest cipher.
+pub mod constants;
+
 ghost use mathlib.Core.Path.{_≡_};
 ghost use Prim.Native.Nat.{_+_, _*_, _<_, _≤_};
 ghost use mathlib.Core.List.{map};
-ghost use lib.ListN.{length, set, replicate};
-ghost use Rattle.cells.specs.Cells.{Nibble, Byte, Two, Three, Tabulates};
-ghost use Rattle.schedule.specs.Constants.{constant};
-ghost use Rattle.schedule.specs.Schedule.{keyRow, advance, RoundKeys};
-ghost use Rattle.schedule.specs.Sixteen.{standing, Sums, movedOnce, moved, pairLaid, Laid};
+ghost use lib.ListN.{length, replicate};
+ghost use Rattle.cells.specs.Cells.{Nibble, Byte, Two, Three, LowCells};
+ghost use Rattle.schedule.specs.Schedule.{keyRow, advance, Room, RoundKeys};
+ghost use Rattle.schedule.specs.Sixteen.{standing, Sums, movedOnce, moved, rowLaid, pairLaid, Laid};
 
 // The tweakey: room for three words of sixteen cells, one after the other, and the number of rounds that it has served.
 pub struct Tweakey {
@@ -94,8 +95,28 @@ fn lay_pair(keys: &mut [[u8; 8]; 97], at: usize, s: [u8; 16])
     requires { ⌜ at + 1 < 97 ⌝ }
     ensures { λ r. ⌜ now (keys .exit) ≡ pairLaid at s (now (keys .entry)) ⌝ }
 {
-    keys[at] = [s[8], s[9], s[10], s[11], s[12], s[13], s[14], s[15]];
-    keys[at + 1] = [s[0], s[1], s[2], s[3], s[4], s[5], s[6], s[7]];
+    let a = keys[at];
+    keys[at] = [
+        a[0] ^ s[8],
+        a[1] ^ s[9],
+        a[2] ^ s[10],
+        a[3] ^ s[11],
+        a[4] ^ s[12],
+        a[5] ^ s[13],
+        a[6] ^ s[14],
+        a[7] ^ s[15],
+    ];
+    let b = keys[at + 1];
+    keys[at + 1] = [
+        b[0] ^ s[0],
+        b[1] ^ s[1],
+        b[2] ^ s[2],
+        b[3] ^ s[3],
+        b[4] ^ s[4],
+        b[5] ^ s[5],
+        b[6] ^ s[6],
+        b[7] ^ s[7],
+    ];
 }
 
 // The keys of two rounds, 2k + 1 and 2k + 2 after round `at`, from row k of the sums.
@@ -155,39 +176,41 @@ fn sixteen_on_128_256(keys: &mut [[u8; 8]; 97], t: Tweakey) -> Tweakey
 
 // The key of the first round of 64-192.
 fn lay_first_64_192(keys: &mut [[u8; 8]; 97], c: [u8; 48])
-    ensures { λ r. ⌜ now (keys .exit) ≡ set (now (keys .entry)) 0 (keyRow Three c) ⌝ }
+    ensures { λ r. ⌜ now (keys .exit) ≡ rowLaid 0 (keyRow Three c) (now (keys .entry)) ⌝ }
 {
+    let k = keys[0];
     keys[0] = [
-        c[0] ^ c[16] ^ c[32],
-        c[1] ^ c[17] ^ c[33],
-        c[2] ^ c[18] ^ c[34],
-        c[3] ^ c[19] ^ c[35],
-        c[4] ^ c[20] ^ c[36],
-        c[5] ^ c[21] ^ c[37],
-        c[6] ^ c[22] ^ c[38],
-        c[7] ^ c[23] ^ c[39],
+        k[0] ^ (c[0] ^ c[16] ^ c[32]),
+        k[1] ^ (c[1] ^ c[17] ^ c[33]),
+        k[2] ^ (c[2] ^ c[18] ^ c[34]),
+        k[3] ^ (c[3] ^ c[19] ^ c[35]),
+        k[4] ^ (c[4] ^ c[20] ^ c[36]),
+        k[5] ^ (c[5] ^ c[21] ^ c[37]),
+        k[6] ^ (c[6] ^ c[22] ^ c[38]),
+        k[7] ^ (c[7] ^ c[23] ^ c[39]),
     ];
 }
 
 // The key of the first round of 128-256.
 fn lay_first_128_256(keys: &mut [[u8; 8]; 97], c: [u8; 48])
-    ensures { λ r. ⌜ now (keys .exit) ≡ set (now (keys .entry)) 0 (keyRow Two c) ⌝ }
+    ensures { λ r. ⌜ now (keys .exit) ≡ rowLaid 0 (keyRow Two c) (now (keys .entry)) ⌝ }
 {
+    let k = keys[0];
     keys[0] = [
-        c[0] ^ c[16],
-        c[1] ^ c[17],
-        c[2] ^ c[18],
-        c[3] ^ c[19],
-        c[4] ^ c[20],
-        c[5] ^ c[21],
-        c[6] ^ c[22],
-        c[7] ^ c[23],
+        k[0] ^ (c[0] ^ c[16]),
+        k[1] ^ (c[1] ^ c[17]),
+        k[2] ^ (c[2] ^ c[18]),
+        k[3] ^ (c[3] ^ c[19]),
+        k[4] ^ (c[4] ^ c[20]),
+        k[5] ^ (c[5] ^ c[21]),
+        k[6] ^ (c[6] ^ c[22]),
+        k[7] ^ (c[7] ^ c[23]),
     ];
 }
 
 // The keys of the first m rounds of 64-192, and of fewer than sixteen more.
 pub fn lay_keys_64_192(keys: &mut [[u8; 8]; 97], m: usize, t: Tweakey)
-    requires { ⌜ (m ≤ 87) × (t .at ≡ 0) × (length (now keys) ≡ 97) ⌝ }
+    requires { ⌜ (m ≤ 87) × (t .at ≡ 0) × LowCells Nibble (t .cells) × Room (now keys) ⌝ }
     ensures { λ r. ⌜ RoundKeys Nibble Three m t (now (keys .exit)) ⌝ }
 {
     let mut u = t;
@@ -201,7 +224,7 @@ pub fn lay_keys_64_192(keys: &mut [[u8; 8]; 97], m: usize, t: Tweakey)
 
 // The keys of the first m rounds of 128-256, and of fewer than sixteen more.
 pub fn lay_keys_128_256(keys: &mut [[u8; 8]; 97], m: usize, t: Tweakey)
-    requires { ⌜ (m ≤ 87) × (t .at ≡ 0) × (length (now keys) ≡ 97) ⌝ }
+    requires { ⌜ (m ≤ 87) × (t .at ≡ 0) × LowCells Byte (t .cells) × Room (now keys) ⌝ }
     ensures { λ r. ⌜ RoundKeys Byte Two m t (now (keys .exit)) ⌝ }
 {
     let mut u = t;
@@ -211,20 +234,4 @@ pub fn lay_keys_128_256(keys: &mut [[u8; 8]; 97], m: usize, t: Tweakey)
     }
     let c = t.cells;
     lay_first_128_256(keys, c);
-}
-
-// The constants of all rounds, as table 2 of the Forkcipher paper prints them.
-const CONSTANTS: [u8; 87] = *b"\
-    \x01\x03\x07\x0f\x1f\x3f\x7e\x7d\x7b\x77\x6f\x5f\x3e\x7c\x79\x73\
-    \x67\x4f\x1e\x3d\x7a\x75\x6b\x57\x2e\x5c\x38\x70\x61\x43\x06\x0d\
-    \x1b\x37\x6e\x5d\x3a\x74\x69\x53\x26\x4c\x18\x31\x62\x45\x0a\x15\
-    \x2b\x56\x2c\x58\x30\x60\x41\x02\x05\x0b\x17\x2f\x5e\x3c\x78\x71\
-    \x63\x47\x0e\x1d\x3b\x76\x6d\x5b\x36\x6c\x59\x32\x64\x49\x12\x25\
-    \x4a\x14\x29\x52\x24\x48\x10";
-
-// Laid out for a function that holds them.
-pub fn round_constants() -> [u8; 87]
-    ensures { λ r. ⌜ Tabulates constant 87 r ⌝ }
-{
-    CONSTANTS
 }

@@ -1,10 +1,9 @@
 -- Opening a run, from what the callees ensure.
---     judged-yes, judged-no   the test at its end: its two returns
---     open-ended              the last block, and the bytes behind it
---     OpenGoing               the loop's invariant: how it begins, what a turn and the end require, and what they do to it
+--     open-ended   the last block, and the bytes behind it
+--     OpenGoing    the loop's invariant: how it begins, what a turn and the end require, and what they do to it
 -- Assumes nothing.
 use mathlib.Core.Path.{_≡_, refl, sym, ap, ap₂, _∙_, subst⁻¹}
-use mathlib.Core.Bool.{Bool, true, false, _&&_}
+use mathlib.Core.Bool.{Bool, true, _&&_}
 use mathlib.Core.List.{List, _∷_, _++_}
 use Prim.Native.Nat.{ℕ, zero, suc, _+_, _-_, _≤_, _<_}
 use native.Mathlib.Omega.{arith}
@@ -29,12 +28,6 @@ use Rattle.walks.proofs.Places.{block-first, ready-at, lent, after, len
 use Rattle.walks.proofs.Writing.{writing-end}
 
 -- ---- the test
-
-pub judged-yes : {a b x y : Bool} → a ≡ x → b ≡ y → a ≡ true → b ≡ (x && y)
-judged-yes {y = y} ea eb h = eb ∙ ap (λ (z : Bool). z && y) (sym h ∙ ea)
-
-pub judged-no : {a x : Bool} (y : Bool) → a ≡ x → a ≡ false → false ≡ (x && y)
-judged-no y ea h = ap (λ (z : Bool). z && y) (sym h ∙ ea)
 
 -- the bytes behind r of n bytes
 behind : (r n : ℕ) (l : List ℕ) → r ≤ n → n ≤ length l → drop r (take n l) ≡ take (n - r) (drop r l)

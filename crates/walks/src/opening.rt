@@ -1,7 +1,7 @@
 // A run longer than a block, opened: each block from its own place, on into the rest of the room. Whether the run is authentic is
 // told at its end; the caller clears the room where it is not.
 use crate::is_full;
-use blocks::equal;
+use blocks::differences;
 use blocks::load;
 use blocks::store;
 use ciphers::Cipher;
@@ -35,19 +35,17 @@ fn turn(
     t.next
 }
 
-// Whether r bytes of the second block are the tag, and what stands behind r bytes of the last block is padding.
+// Whether r bytes of the second block are the tag, and what stands behind r bytes of the last block is padding: one answer, told
+// when both were read to their ends.
 fn judge(n: usize, r: usize, block: [u8; 16], second: [u8; 16], tag: &[u8]) -> bool
     requires { ⌜ (r ≤ n) × (n ≤ 16) ⌝ }
     ensures { λ x. ⌜ x ≡ (same (take r second) (now (tag .entry)) && same (take (n - r) (drop r block)) (take (n - r) (ten 15))) ⌝ }
 {
     let mut ten = [0u8; 16];
     ten[0] = 0x80;
-    let tag_is = equal(&second[..r], tag);
-    let padding_is = equal(&block[r..n], &ten[..n - r]);
-    if tag_is {
-        return padding_is;
-    }
-    false
+    let in_tag = differences(&second[..r], tag);
+    let in_padding = differences(&block[r..n], &ten[..n - r]);
+    (in_tag | in_padding) == 0
 }
 
 // The end of a run: its last block, and the bytes behind it.

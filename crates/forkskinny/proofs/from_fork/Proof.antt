@@ -5,7 +5,7 @@ use Rattle.schedule.specs.Schedule.{advance}
 use Rattle.runs.specs.Runs.{unrounds}
 use Rattle.runs.proofs.Loops.{fewer}
 use Rattle.ciphers.specs.Ciphers.{widthOf, wordsOf, unload}
-use Rattle.ciphers.proofs.Laws.{fit}
+use Rattle.ciphers.proofs.Laws.{fit, init-some}
 use Rattle.forkskinny.specs.ForkSkinny.{unforked}
 use borrow.Author.Needs.{needs}
 use Rattle.forkskinny.proofs.from_fork.Statement.{statement}
@@ -15,7 +15,10 @@ init-of-requires : tie.Need-init-of-requires
 init-of-requires c κs = search needs
 
 unrun-requires : tie.Need-unrun-requires
-unrun-requires c κs = omega (arith, fit (c .before .args .c), c .init-of .ensures)
+unrun-requires c κs =
+    let a = c .before .args in
+    let p = c .init-of .ensures in
+    (omega (arith, init-some (a .c), p), omega (arith, fit (a .c), p))
 
 unload-state-requires : tie.Need-unload-state-requires
 unload-state-requires c κs = search needs
@@ -28,7 +31,7 @@ returns c =
     let n = wordsOf (a .c) in
     let p = c .before .before .init-of .ensures in
     λ t known. c .unload-state .ensures
-    ∙ ap (unload w) (c .before .unrun .ensures .by w n t (c .before .before .before .pre) (fewer known _ (omega (arith, p)))
+    ∙ ap (unload w) (c .before .unrun .ensures .by n t (fewer known _ (omega (arith, p)))
     ∙ (λ i. unrounds w n (p i) t (a .s)))
 
 pub from-fork-spec : {M : Type 1} → statement M

@@ -5,6 +5,7 @@ use Rattle.schedule.specs.Schedule.{advance}
 use Rattle.runs.specs.Runs.{rounds}
 use Rattle.runs.proofs.Loops.{fewer}
 use Rattle.ciphers.specs.Ciphers.{widthOf, wordsOf, unload}
+use Rattle.ciphers.proofs.Laws.{branch-more}
 use Rattle.forkskinny.specs.ForkSkinny.{branch}
 use Rattle.forkskinny.proofs.Places.{branch-fit}
 use borrow.Author.Needs.{needs}
@@ -21,7 +22,11 @@ enter-branch-requires : tie.Need-enter-branch-requires
 enter-branch-requires c κs = search needs
 
 run-requires : tie.Need-run-requires
-run-requires c κs = omega (arith, branch-fit (c .before .before .before .args .c) (c .before .before .before .args .b), c .before .before .start-of .ensures, c .before .branch-of .ensures)
+run-requires c κs =
+    let a = c .before .before .before .args in
+    let p = c .before .before .start-of .ensures in
+    let q = c .before .branch-of .ensures in
+    (omega (arith, branch-more (a .c), q), omega (arith, branch-fit (a .c) (a .b), p, q))
 
 unload-state-requires : tie.Need-unload-state-requires
 unload-state-requires c κs = search needs
@@ -35,7 +40,7 @@ returns c =
     let p = c .before .before .before .before .start-of .ensures in
     let q = c .before .before .before .branch-of .ensures in
     λ t known. c .unload-state .ensures
-    ∙ ap (unload w) (c .before .run .ensures .by w n t (c .before .before .before .before .before .pre) (fewer known _ (omega (arith, p, q)))
+    ∙ ap (unload w) (c .before .run .ensures .by n t (fewer known _ (omega (arith, p, q)))
     ∙ (λ i. rounds w n (q i) (advance w n (p i) t) (c .before .before .enter-branch .ensures i)))
 
 pub run-branch-spec : {M : Type 1} → statement M

@@ -5,7 +5,7 @@ use Rattle.schedule.specs.Schedule.{advance}
 use Rattle.runs.specs.Runs.{rounds}
 use Rattle.runs.proofs.Loops.{fewer}
 use Rattle.ciphers.specs.Ciphers.{widthOf, wordsOf}
-use Rattle.ciphers.proofs.Laws.{fit}
+use Rattle.ciphers.proofs.Laws.{fit, init-some}
 use Rattle.forkskinny.specs.ForkSkinny.{forked}
 use borrow.Author.Needs.{needs}
 use Rattle.forkskinny.proofs.to_fork.Statement.{statement}
@@ -18,7 +18,10 @@ load-state-requires : tie.Need-load-state-requires
 load-state-requires c κs = search needs
 
 run-requires : tie.Need-run-requires
-run-requires c κs = omega (arith, fit (c .before .before .args .c), c .before .init-of .ensures)
+run-requires c κs =
+    let a = c .before .before .args in
+    let p = c .before .init-of .ensures in
+    (omega (arith, init-some (a .c), p), omega (arith, fit (a .c), p))
 
 returns : tie.Need-returns
 unfolding forked advance
@@ -27,7 +30,7 @@ returns c =
     let w = widthOf (a .c) in
     let n = wordsOf (a .c) in
     let p = c .before .before .init-of .ensures in
-    λ t known. c .run .ensures .by w n t (c .before .before .before .pre) (fewer known _ (omega (arith, p)))
+    λ t known. c .run .ensures .by n t (fewer known _ (omega (arith, p)))
     ∙ (λ i. rounds w n (p i) t (c .before .load-state .ensures i))
 
 pub to-fork-spec : {M : Type 1} → statement M

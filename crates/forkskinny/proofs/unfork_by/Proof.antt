@@ -1,10 +1,12 @@
 -- `forkskinny::unfork_by` meets its contract: its parts make the answer. Assumes nothing.
-use mathlib.Core.Path.{_∙_, ap}
+use mathlib.Core.Path.{_∙_, ap, subst⁻¹}
 use native.Mathlib.Omega.{arith}
+use Rattle.cells.specs.Cells.{LowCells}
 use Rattle.schedule.specs.declared.Tweakey.{Tweakey}
-use Rattle.ciphers.proofs.Laws.{tk-at}
+use Rattle.ciphers.specs.Ciphers.{widthOf}
+use Rattle.ciphers.proofs.Laws.{tk-at, tk-low}
 use Rattle.forkskinny.proofs.Places.{reach-fit}
-use Rattle.forkskinny.proofs.Parts.{unfork-parts}
+use Rattle.forkskinny.proofs.Parts.{unfork-parts, unfork-both}
 use borrow.Author.Needs.{needs}
 use Rattle.forkskinny.proofs.unfork_by.Statement.{statement}
 use Rattle.forkskinny.proofs.unfork_by.Tie as tie
@@ -24,21 +26,34 @@ takes-far-requires c κs = search needs
 reach-of-requires : tie.Need-reach-of-requires
 reach-of-requires c κs = search needs
 
+slice-aggregate-bytes-known : tie.Need-slice-aggregate-bytes-known
+slice-aggregate-bytes-known c = search needs
+
+bytes-known-requires : tie.Need-bytes-known-requires
+bytes-known-requires c κs = search needs
+
+slice-aggregate-bytes-known-2 : tie.Need-slice-aggregate-bytes-known-2
+slice-aggregate-bytes-known-2 c = search needs
+
+bytes-known-requires-2 : tie.Need-bytes-known-requires-2
+bytes-known-requires-2 c κs = search needs
+
+room-requires : tie.Need-room-requires
+room-requires c κs = search needs
+
 load-key-requires : tie.Need-load-key-requires
 load-key-requires c κs = search needs
 
-round-keys-requires : tie.Need-round-keys-requires
-round-keys-requires c κs =
-    let a = c .before .before .before .before .before .before .args in (
-      omega (arith, reach-fit (a .c) (c .before .before .takes-far .result), c .before .reach-of .ensures),
-      ap (λ (t : Tweakey). t .at) (c .load-key .ensures) ∙ tk-at (a .c) (a .key) (a .tweak),
+lay-keys-requires : tie.Need-lay-keys-requires
+lay-keys-requires c κs =
+    let a = c .before .before .before .before .before .before .before .before .before .before .before .before .args in
+    let e = c .load-key .ensures in (
+      omega (arith, reach-fit (a .c) (c .before .before .before .before .before .before .before .before .takes-far .result), c .before .before .before .before .before .before .before .reach-of .ensures),
+      ap (λ (t : Tweakey). t .at) e ∙ tk-at (a .c) (a .t2) (a .t3),
+      subst⁻¹ (λ (t : Tweakey). LowCells (widthOf (a .c)) (t .cells)) e
+          (tk-low (a .c) (a .t2) (a .t3) (c .before .before .before .before .before .bytes-known .ensures) (c .before .before .before .bytes-known2 .ensures)),
+      c .before .before .room .ensures,
     )
-
-table-of-requires : tie.Need-table-of-requires
-table-of-requires c κs = search needs
-
-untable-of-requires : tie.Need-untable-of-requires
-untable-of-requires c κs = search needs
 
 side-of-requires : tie.Need-side-of-requires
 side-of-requires c κs = search needs
@@ -46,27 +61,43 @@ side-of-requires c κs = search needs
 unrun-branch-requires : tie.Need-unrun-branch-requires
 unrun-branch-requires c κs = search needs
 
+side-of-requires-2 : tie.Need-side-of-requires-2
+side-of-requires-2 c κs = search needs
+
+both-ends-requires : tie.Need-both-ends-requires
+both-ends-requires c κs = search needs
+
+unfork-rounds-requires : tie.Need-unfork-rounds-requires
+unfork-rounds-requires c κs = search needs
+
+returns : tie.Need-returns
+returns c =
+    let k = c .before .before .before .before .before .before .before .before .before .before in
+    let m = k .before .before .before .before .before .before .before .before in
+    let a = m .before .before .before .before .before .args in
+    unfork-both (a .c) (a .t2) (a .t3) (a .block) (a .want) (m .before .before .before .before .is-wanted .ensures) (m .before .before .before .is-wanted2 .ensures)
+    (k .before .load-key .ensures) (k .lay-keys .ensures) (a .from) (c .before .before .before .before .before .before .if1 .taken) (m .reach-of .ensures) (m .before .takes-far .ensures)
+    (c .before .before .before .before .before .before .before .before .before .side-of .ensures) (m .before .before .other-of .ensures) (c .before .before .before .before .before .side-of2 .ensures) (c .before .before .before .before .before .before .before .unrun-branch .ensures)
+    (c .before .before .before .both-ends .ensures) (c .unfork-rounds .ensures)
+
 input-if-requires : tie.Need-input-if-requires
 input-if-requires c κs = search needs
 
 half-if-requires : tie.Need-half-if-requires
 half-if-requires c κs = search needs
 
-unfork-rounds-requires : tie.Need-unfork-rounds-requires
-unfork-rounds-requires c κs = search needs
+unfork-rounds-requires-2 : tie.Need-unfork-rounds-requires-2
+unfork-rounds-requires-2 c κs = search needs
 
-returns : tie.Need-returns
-returns d =
-    let c = d .before in
-    let c₃ = c .before .before .before in
-    let c₆ = c₃ .before .before .before in
-    let c₉ = c₆ .before .before .before in
-    let c₁₂ = c₉ .before .before .before in
-    let c₁₄ = c₁₂ .before .before in
-    let a = c₁₄ .before .before .before .before .before .args in
-    unfork-parts (a .c) (a .key) (a .tweak) (a .block) (a .want) (c₁₄ .before .before .before .before .is-wanted .ensures) (c₁₄ .before .before .before .is-wanted2 .ensures)
-    (c₁₂ .before .load-key .ensures) (c₁₂ .round-keys .ensures) (a .from) (c₁₄ .reach-of .ensures) (c₁₄ .before .takes-far .ensures)
-    (c₉ .side-of .ensures) (c₁₄ .before .before .other-of .ensures) (c₆ .unrun-branch .ensures) (c₃ .input-if .ensures) (c .half-if .ensures) (d .unfork-rounds .ensures)
+returns-2 : tie.Need-returns-2
+returns-2 c =
+    let k = c .before .before .before .before .before .before .before .before .before in
+    let m = k .before .before .before .before .before .before .before .before in
+    let a = m .before .before .before .before .before .args in
+    unfork-parts (a .c) (a .t2) (a .t3) (a .block) (a .want) (m .before .before .before .before .is-wanted .ensures) (m .before .before .before .is-wanted2 .ensures)
+    (k .before .load-key .ensures) (k .lay-keys .ensures) (a .from) (m .reach-of .ensures) (m .before .takes-far .ensures)
+    (c .before .before .before .before .before .before .before .before .side-of .ensures) (m .before .before .other-of .ensures) (c .before .before .before .before .before .before .unrun-branch .ensures)
+    (c .before .before .before .input-if .ensures) (c .before .half-if .ensures) (c .unfork-rounds2 .ensures)
 
 pub unfork-by-spec : {M : Type 1} → statement M
 unfork-by-spec =
@@ -77,13 +108,20 @@ unfork-by-spec =
     other-of-requires
     takes-far-requires
     reach-of-requires
+    slice-aggregate-bytes-known
+    bytes-known-requires
+    slice-aggregate-bytes-known-2
+    bytes-known-requires-2
+    room-requires
     load-key-requires
-    round-keys-requires
-    table-of-requires
-    untable-of-requires
+    lay-keys-requires
     side-of-requires
     unrun-branch-requires
+    side-of-requires-2
+    both-ends-requires
+    unfork-rounds-requires
+    returns
     input-if-requires
     half-if-requires
-    unfork-rounds-requires
-    returns)
+    unfork-rounds-requires-2
+    returns-2)

@@ -5,6 +5,7 @@ use Rattle.schedule.specs.Schedule.{advance}
 use Rattle.runs.specs.Runs.{unrounds}
 use Rattle.runs.proofs.Loops.{fewer}
 use Rattle.ciphers.specs.Ciphers.{widthOf, wordsOf}
+use Rattle.ciphers.proofs.Laws.{branch-more}
 use Rattle.forkskinny.specs.ForkSkinny.{enter, unbranch}
 use Rattle.forkskinny.proofs.Places.{branch-fit}
 use borrow.Author.Needs.{needs}
@@ -21,7 +22,11 @@ load-state-requires : tie.Need-load-state-requires
 load-state-requires c κs = search needs
 
 unrun-requires : tie.Need-unrun-requires
-unrun-requires c κs = omega (arith, branch-fit (c .before .before .before .args .c) (c .before .before .before .args .b), c .before .before .start-of .ensures, c .before .branch-of .ensures)
+unrun-requires c κs =
+    let a = c .before .before .before .args in
+    let p = c .before .before .start-of .ensures in
+    let q = c .before .branch-of .ensures in
+    (omega (arith, branch-more (a .c), q), omega (arith, branch-fit (a .c) (a .b), p, q))
 
 enter-branch-requires : tie.Need-enter-branch-requires
 enter-branch-requires c κs = search needs
@@ -35,7 +40,7 @@ returns c =
     let p = c .before .before .before .before .start-of .ensures in
     let q = c .before .before .before .branch-of .ensures in
     λ t known. c .enter-branch .ensures
-    ∙ ap (enter w (a .b)) (c .before .unrun .ensures .by w n t (c .before .before .before .before .before .pre) (fewer known _ (omega (arith, p, q)))
+    ∙ ap (enter w (a .b)) (c .before .unrun .ensures .by n t (fewer known _ (omega (arith, p, q)))
     ∙ (λ i. unrounds w n (q i) (advance w n (p i) t) (c .before .before .load-state .ensures i)))
 
 pub unrun-branch-spec : {M : Type 1} → statement M

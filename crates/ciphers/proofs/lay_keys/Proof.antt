@@ -1,0 +1,48 @@
+-- `ciphers::lay_keys` meets its contract: by cases. Assumes nothing.
+use mathlib.Core.Path.{subst, subst⁻¹}
+use Rattle.cells.specs.Cells.{LowCells}
+use Rattle.schedule.specs.Schedule.{RoundKeys}
+use Rattle.ciphers.specs.declared.Cipher.{Cipher}
+use Rattle.ciphers.specs.Ciphers.{widthOf, wordsOf}
+use borrow.Author.Needs.{needs}
+use Rattle.ciphers.proofs.lay_keys.Statement.{statement}
+use Rattle.ciphers.proofs.lay_keys.Tie as tie
+
+enum-told : tie.Need-enum-told
+enum-told c = search needs
+
+lay-keys-64-192-requires : tie.Need-lay-keys-64-192-requires
+lay-keys-64-192-requires c κs =
+    let b = c .before .before .before in
+    let (fit, z, low, room) = b .pre in
+    (fit, z, subst (λ (x : Cipher). LowCells (widthOf x) (b .args .t .cells)) (c .before .enum-told .given .1) low, room)
+
+enum-told-2 : tie.Need-enum-told-2
+enum-told-2 c = search needs
+
+lay-keys-128-256-requires : tie.Need-lay-keys-128-256-requires
+lay-keys-128-256-requires c κs =
+    let b = c .before .before .before in
+    let (fit, z, low, room) = b .pre in
+    (fit, z, subst (λ (x : Cipher). LowCells (widthOf x) (b .args .t .cells)) (c .before .enum-told2 .given .1) low, room)
+
+returns : tie.Need-returns
+returns c =
+    let a = c .before .before .before .before .args in
+    subst⁻¹ (λ (x : Cipher). RoundKeys (widthOf x) (wordsOf x) (a .m) (a .t) (c .lay-keys-64-192 .last .0)) (c .before .before .enum-told .given .1) (c .lay-keys-64-192 .ensures)
+
+returns-2 : tie.Need-returns-2
+returns-2 c =
+    let a = c .before .before .before .before .args in
+    subst⁻¹ (λ (x : Cipher). RoundKeys (widthOf x) (wordsOf x) (a .m) (a .t) (c .lay-keys-128-256 .last .0)) (c .before .before .enum-told2 .given .1) (c .lay-keys-128-256 .ensures)
+
+pub lay-keys-spec : {M : Type 1} → statement M
+lay-keys-spec =
+    tie.close
+    (tie.spec
+    enum-told
+    lay-keys-64-192-requires
+    enum-told-2
+    lay-keys-128-256-requires
+    returns
+    returns-2)

@@ -1,0 +1,176 @@
+/* Seals and opens. Of an open the run is public, but without the key nobody knows what it opens to. */
+#include "auraski.h"
+#include "cases.h"
+#include "secret.h"
+#include "tally.h"
+
+#include <string.h>
+
+/* Of all schemes. */
+enum { LIMIT = AURASKI_SAEF_128_256_LIMIT, BLOCK = AURASKI_SAEF_128_256_BLOCK };
+
+static uint8_t key[AURASKI_KEY_BYTES], nonce[BLOCK], header[LIMIT + 1], body[LIMIT + 1], run[LIMIT + 1 + BLOCK], room[LIMIT + 1 + BLOCK];
+
+struct scheme {
+    uint32_t number, cipher;
+    size_t block, nonce, limit;
+    uint8_t behind[2]; /* what stands behind the nonce in the tweak of a body that is one short block */
+};
+
+static const struct scheme schemes[3] = {
+    {AURASKI_PAEF_64_192, AURASKI_64_192, AURASKI_PAEF_64_192_BLOCK, AURASKI_PAEF_64_192_NONCE, AURASKI_PAEF_64_192_LIMIT, {0xe0, 0x01}},
+    {AURASKI_PAEF_128_256, AURASKI_128_256, AURASKI_PAEF_128_256_BLOCK, AURASKI_PAEF_128_256_NONCE, AURASKI_PAEF_128_256_LIMIT, {0xe0, 0x01}},
+    {AURASKI_SAEF_128_256, AURASKI_128_256, AURASKI_SAEF_128_256_BLOCK, AURASKI_SAEF_128_256_NONCE, AURASKI_SAEF_128_256_LIMIT, {0x0d}},
+};
+
+/* The scheme's number, and the lengths that a call is given. The text is the body or the run. */
+struct call {
+    uint32_t scheme;
+    size_t key, nonce, header, text, room;
+};
+
+/* Seals or opens, and looks at what came. */
+static void make(enum entry entry, const struct call *c, uint32_t due)
+{
+    const uint8_t *text = entry == SEAL ? body : run;
+    size_t length = 1, output = due == AURASKI_DONE ? c->room : 0;
+    memset(room, 0xee, c->room);
+    make_secret(key, c->key);
+    make_secret(body, entry == SEAL ? c->text : 0);
+    tally_begin();
+    uint32_t number = (entry == SEAL ? auraski_seal : auraski_open)(c->scheme, key, c->key, nonce, c->nonce, header, c->header, text, c->text,
+                                                                    room, c->room, &length);
+    int silent = tally_end(entry, c->scheme, due);
+    hold(judges(entry, due) || (none_secret(&number, sizeof number) && none_secret(&length, sizeof length)),
+         "number or length depends on a secret");
+    hold(!silent || all_secret(room, output), "a byte of the output depends on no secret");
+    make_public(key, c->key);
+    make_public(body, entry == SEAL ? c->text : 0);
+    make_public(&number, sizeof number);
+    make_public(&length, sizeof length);
+    make_public(room, c->room);
+    hold(number == due && length == output, "another number or length");
+}
+
+static void open_authentic(const struct call *c)
+{
+    make(OPEN, c, AURASKI_DONE);
+    hold(memcmp(room, body, c->room) == 0, "not the body that was sealed");
+}
+
+static void open_forged(const struct call *c)
+{
+    size_t zeros = 0;
+    make(OPEN, c, AURASKI_FORGED);
+    for (size_t i = 0; i < c->room; i++) {
+        zeros += room[i] == 0;
+    }
+    hold(zeros == c->room, "not zeros where the body would have been");
+}
+
+/* A record sealed, opened, and refused: for the first byte of its run, and for the first and the last one of its tag. */
+static void record_case(const struct scheme *s, size_t header_len, size_t body_len)
+{
+    const size_t run_len = body_len + s->block, tag_len = body_len == 0 ? s->block : (body_len - 1) % s->block + 1;
+    const size_t places[] = {0, run_len - tag_len, run_len - 1};
+    const struct call sealing = {s->number, sizeof key, s->nonce, header_len, body_len, run_len};
+    const struct call opening = {s->number, sizeof key, s->nonce, header_len, run_len, body_len};
+    make(SEAL, &sealing, AURASKI_DONE);
+    memcpy(run, room, run_len);
+    open_authentic(&opening);
+    for (size_t i = 0; i < sizeof places / sizeof places[0]; i++) {
+        if (i == 0 || places[i] != places[i - 1]) {
+            run[places[i]] ^= 0x10;
+            open_forged(&opening);
+            run[places[i]] ^= 0x10;
+        }
+    }
+}
+
+/* ---- padding ---- */
+
+/* The run of a body that is one short block, under no header, made by a block call of its own, with one byte of the block damaged. So its
+ * tag is right where its padding is not. Nothing of it is secret yet. */
+static void run_by_hand(const struct scheme *s, size_t body_len, size_t place, uint8_t damage)
+{
+    uint8_t tweak[16] = {0}, block[16] = {0}, half0[16], half1[16];
+    memcpy(tweak, nonce, s->nonce);
+    memcpy(tweak + s->nonce, s->behind, s->block - s->nonce);
+    memcpy(block, body, body_len);
+    block[body_len] = 0x80;
+    block[place] ^= damage;
+    hold(auraski_fork(s->cipher, key, tweak, block, AURASKI_BOTH, half0, half1) == AURASKI_DONE, "a fork by hand is refused");
+    memcpy(run, half0, s->block);
+    memcpy(run + s->block, half1, body_len);
+}
+
+/* By hand as by a seal; then refused for the first byte of the padding and for the last one. */
+static void padding_case(const struct scheme *s, size_t body_len)
+{
+    const struct call sealing = {s->number, sizeof key, s->nonce, 0, body_len, body_len + s->block};
+    const struct call opening = {s->number, sizeof key, s->nonce, 0, body_len + s->block, body_len};
+    make(SEAL, &sealing, AURASKI_DONE);
+    run_by_hand(s, body_len, 0, 0);
+    hold(memcmp(run, room, sealing.room) == 0, "not the run that is made by hand");
+    run_by_hand(s, body_len, body_len, 0x80);
+    open_forged(&opening);
+    run_by_hand(s, body_len, s->block - 1, 0x01);
+    open_forged(&opening);
+}
+
+/* ---- refusals by lengths ---- */
+
+/* Of a call that would be done but for one argument. */
+static void refused_cases(enum entry entry, const struct scheme *s, size_t text_len, size_t room_len)
+{
+    const struct call done = {s->number, sizeof key, s->nonce, BLOCK, text_len, room_len};
+    struct call unknown = done, short_key = done, long_nonce = done, long_header = done, long_text = done, little_room = done;
+    unknown.scheme = 0;
+    short_key.key--;
+    long_nonce.nonce++;
+    long_header.header = s->limit + 1;
+    long_text.text += s->limit;
+    little_room.room--;
+    make(entry, &unknown, AURASKI_UNKNOWN);
+    make(entry, &short_key, AURASKI_WRONG_KEY_LENGTH);
+    make(entry, &long_nonce, AURASKI_WRONG_NONCE_LENGTH);
+    make(entry, &long_header, AURASKI_HEADER_TOO_LONG);
+    make(entry, &long_text, AURASKI_BODY_TOO_LONG);
+    make(entry, &little_room, AURASKI_ROOM);
+}
+
+static void short_case(const struct scheme *s)
+{
+    const struct call short_run = {s->number, sizeof key, s->nonce, BLOCK, s->block - 1, BLOCK};
+    make(OPEN, &short_run, AURASKI_TOO_SHORT);
+}
+
+static void scheme_cases(const struct scheme *s)
+{
+    const size_t n = s->block, headers[] = {0, n - 1, n, 2 * n + 1}, bodies[] = {0, 1, n - 1, n, n + 1, 2 * n, 3 * n + 5};
+    for (size_t i = 0; i < sizeof headers / sizeof headers[0]; i++) {
+        for (size_t j = 0; j < sizeof bodies / sizeof bodies[0]; j++) {
+            record_case(s, headers[i], bodies[j]);
+        }
+    }
+    padding_case(s, 1);
+    padding_case(s, n - 1);
+    refused_cases(SEAL, s, 1, 1 + n);
+    refused_cases(OPEN, s, 1 + n, 1);
+    short_case(s);
+}
+
+void record_cases(void)
+{
+    for (size_t i = 0; i < sizeof key; i++) {
+        key[i] = (uint8_t)(0x3b * i + 0x71);
+        nonce[i] = (uint8_t)(0x1d * i + 0x05);
+    }
+    for (size_t i = 0; i < 4 * BLOCK; i++) {
+        header[i] = (uint8_t)(0x35 * i + 0xc2);
+        body[i] = (uint8_t)(0x67 * i + 0x9e);
+    }
+    for (size_t i = 0; i < sizeof schemes / sizeof schemes[0]; i++) {
+        scheme_cases(&schemes[i]);
+    }
+}
