@@ -7,9 +7,10 @@
  * interrupt handler. It calls memcpy and memset and nothing else, allocates nothing, prints nothing and keeps nothing from one call to the
  * next: calls may run at the same time in several threads. A call does not wipe its stack: parts of key and body may stay behind there.
  *
- * Which memory a call reads or writes does not depend on key, body or block: no table is read at a place that does. Nor does a branch, but
- * that auraski_open, where it judges a run, goes on by its answer, 0 or 6. That is tested on the machine code, not proved. Nothing more is
- * said of the time that a call takes. It may depend on lengths, nonce, tweak, header and sealed run, which are no secrets here.
+ * Which memory a call reads or writes, and how it branches, does not depend on key, body or block: no table is read at a place that does. The
+ * one exception is the answer of auraski_open: where it judges a run, it branches on it once, and for 6 clears the room. That is tested on
+ * the machine code, not proved. Nothing more is said of the time that a call takes. It may depend on lengths, nonce, tweak, header and sealed
+ * run, which are no secrets here.
  *
  * A pointer stands for as many bytes as the length behind it says, `length` for one size_t and `rounds` for one uint32_t. No pointer may be
  * null; where the length is 0 any other will do, such as the address of any object, and nothing is read or written through it. What a call

@@ -1,4 +1,5 @@
 // The cells: nibbles or bytes, their tables forward and backward, and the steps of tweakey words 2 and 3.
+// Cells are worked out from bits (words.rt). The tables stand here to be held to the rule, entry by entry; no code reads them.
 pub mod words;
 
 ghost use mathlib.Core.Path.{_≡_};
@@ -80,7 +81,7 @@ const UNSUB4: [u8; 256] = *b"\
     \x03\x04\x06\x08\x0c\x0a\x01\x0e\x09\x02\x05\x07\x00\x0b\x0d\x0f\
     \x03\x04\x06\x08\x0c\x0a\x01\x0e\x09\x02\x05\x07\x00\x0b\x0d\x0f";
 
-// A table is laid out where a function holds it: a caller makes it once and lends it to every round.
+// Each table is its rule: the contracts are the test of all entries, and nothing calls these functions.
 pub fn byte_table() -> [u8; 256]
     ensures { λ r. ⌜ Tabulates (sub Byte) 256 r ⌝ }
 {

@@ -1,7 +1,7 @@
 -- How the code holds a state while rounds run: four words, a row in each, the first cell its lowest byte, each byte a complement. And a round's
 -- linear part, which is what follows the cells: constants and key in one row of eight cells, then rows and columns. That a round is the
 -- cells and then this is proved in proofs/Linear.antt. Assumes nothing.
-use Prim.Native.Nat.{ℕ, _*_, _<_}
+use Prim.Native.Nat.{ℕ, _*_}
 use mathlib.Core.List.{List, [], _∷_}
 use lib.ListN.{getD}
 use lib.Bits.{bitXor}
@@ -39,10 +39,7 @@ linear t s = linearBy 2 t s
 unfoldable pub unlinear : List ℕ → State → State
 unlinear t s = addBelow 2 (addTweakey t (unshiftRows (unmixColumns s)))
 
--- eight nibbles, and two times eight as eight bytes, the second in the high nibbles
-pub record LowRow (t : List ℕ) : Type 0 where
-  pub at : (k : ℕ) → getD t k 0 < 16
-
+-- two times eight nibbles as eight bytes, the second in the high nibbles
 abbrev pub pairCell : List ℕ → List ℕ → ℕ → ℕ
 pairCell t u k = bitXor (getD t k 0) (getD u k 0 * 16)
 

@@ -6,9 +6,10 @@
 pub mod words;
 
 ghost use mathlib.Core.Path.{_≡_};
+ghost use Rattle.cells.specs.Cells.{Nibble, LowCells};
 ghost use Rattle.cells.specs.Words.{lane};
 ghost use Rattle.rounds.specs.State.{four, row, shiftRows, unshiftRows, mixColumns, unmixColumns};
-ghost use Rattle.rounds.specs.Words.{lanes, shown, added, linear, unlinear, LowRow, pairRow, linearBy};
+ghost use Rattle.rounds.specs.Words.{lanes, shown, added, linear, unlinear, pairRow, linearBy};
 use words::lower_half;
 use words::upper_half;
 
@@ -90,7 +91,7 @@ pub fn unlinear_with(t: &[u8; 8], s: [u32; 4]) -> [u32; 4]
 
 // Two states of nibbles in one, the second in the high nibbles: t is added to the first, u to the second.
 pub fn linear_with_both(t: &[u8; 8], u: &[u8; 8], s: [u32; 4]) -> [u32; 4]
-    ensures { λ r. ⌜ (LowRow (now (u .entry)) → shown r ≡ linearBy 0x22 (pairRow (now (t .entry)) (now (u .entry))) (shown s)) ⌝ }
+    ensures { λ r. ⌜ (LowCells Nibble (now (u .entry)) → shown r ≡ linearBy 0x22 (pairRow (now (t .entry)) (now (u .entry))) (shown s)) ⌝ }
 {
     mix_columns(shift_rows(add_rows(
         upper_half(t) ^ (upper_half(u) << 4),

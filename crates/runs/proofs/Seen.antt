@@ -14,7 +14,7 @@ use Rattle.schedule.specs.Constants.{constantRow}
 use Rattle.schedule.specs.Schedule.{xorRow}
 use Rattle.schedule.proofs.Low.{row-low}
 use Rattle.rounds.specs.State.{State, cell, four, row, grid, subBy, unround}
-use Rattle.rounds.specs.Words.{shown, linearBy, linear, unlinear, LowRow, pairRow, paired}
+use Rattle.rounds.specs.Words.{shown, linearBy, linear, unlinear, pairRow, paired}
 use Rattle.rounds.proofs.Views.{View, whole-view, near-view, far-view, viewRow, linear-view, unlinear-view}
 use Rattle.runs.specs.Runs.{Ran, Unran}
 use Rattle.runs.proofs.Loops.{LowRows, Begun, begun-end, begun-more, Left, left-less, left-none, unround-linear}
@@ -188,15 +188,15 @@ pub record BothBegun (m : ℕ) (keys : List (List ℕ)) (from later : ℕ) (x₀
   pub second : Begun Nibble m keys later (subBy far (shown x₀)) i (subBy far (shown x))
 
 module _ {m : ℕ} (keys : List (List ℕ)) (from later i : ℕ) (x y : List ℕ) (h : from + i < m) (l : later + i < m)
-    (e : LowRow (getD keys (later + i) []) → shown y ≡ linearBy 34 (pairRow (getD keys (from + i) []) (getD keys (later + i) [])) (shown x)) where
+    (e : LowCells Nibble (getD keys (later + i) []) → shown y ≡ linearBy 34 (pairRow (getD keys (from + i) []) (getD keys (later + i) [])) (shown x)) where
   first-part : LowRows Nibble m keys → subBy near (shown y) ≡ linear (getD keys (from + i) []) (subBy near (shown x))
   first-part low =
-      ap (subBy near) (e (record { at = low (later + i) l }))
+      ap (subBy near) (e (low (later + i) l))
       ∙ near-linear (getD keys (from + i) []) (getD keys (later + i) []) (low (from + i) h) (low (later + i) l) (shown x)
 
   second-part : LowRows Nibble m keys → subBy far (shown y) ≡ linear (getD keys (later + i) []) (subBy far (shown x))
   second-part low =
-      ap (subBy far) (e (record { at = low (later + i) l }))
+      ap (subBy far) (e (low (later + i) l))
       ∙ far-linear (getD keys (from + i) []) (getD keys (later + i) []) (low (from + i) h) (low (later + i) l) (shown x)
 
   pub turn-both

@@ -27,7 +27,7 @@ use Rattle.walks.proofs.Going.{Going, going-none, going-more}
 use Rattle.walks.proofs.Places.{block-first, ready-at, lent, after, lent-long}
 use Rattle.walks.proofs.Writing.{writing-end}
 
--- ---- the test
+-- ---- the parts that are compared
 
 -- the bytes behind r of n bytes
 behind : (r n : ℕ) (l : List ℕ) → r ≤ n → n ≤ length l → drop r (take n l) ≡ take (n - r) (drop r l)

@@ -41,10 +41,10 @@ returns c low =
     let a = c₀ .before .args in
     let t : ℕ → ℕ = λ j. getD (a .t .now) j 0 in
     let u : ℕ → ℕ = λ j. getD (a .u .now) j 0 in
-    let upper = pair-row (c₀ .upper-half .result) (c₁ .upper-half2 .result) t u (search needs) (c₀ .upper-half .ensures) (c₁ .upper-half2 .ensures) (low .at) in
+    let upper = pair-row (c₀ .upper-half .result) (c₁ .upper-half2 .result) t u (search needs) (c₀ .upper-half .ensures) (c₁ .upper-half2 .ensures) low in
     let lower =
     pair-row (c₂ .lower-half .result) (c₃ .lower-half2 .result) (λ j. t (4 + j)) (λ j. u (4 + j)) (search needs)
-    (c₂ .lower-half .ensures) (c₃ .lower-half2 .ensures) (λ j. low .at (4 + j)) in
+    (c₂ .lower-half .ensures) (c₃ .lower-half2 .ensures) (λ j. low (4 + j)) in
     ap (subBy not8) (c .mix-columns .ensures
     ∙ ap mixColumns (c .before .shift-rows .ensures
     ∙ ap shiftRows (c .before .before .add-rows .ensures
