@@ -2,7 +2,8 @@
 ghost use mathlib.Core.Path.{_≡_};
 ghost use Prim.Native.Nat.{_≤_};
 ghost use Rattle.cells.specs.Cells.{Nibble, Byte, LowCells, Bytes};
-ghost use Rattle.schedule.specs.Schedule.{Room, RoundKeys};
+ghost use Rattle.constants.specs.Constants.{Room};
+ghost use Rattle.schedule.specs.Schedule.{RoundKeys};
 ghost use Rattle.ciphers.specs.Ciphers.{widthOf, wordsOf, initOf, branchOf, blockOf, loaded, load, unloaded, unload, keyCells, tk, xored, branchConstant, addBranch};
 use schedule::Tweakey;
 

@@ -4,7 +4,7 @@ use mathlib.Core.Bool.{true}
 use mathlib.Core.List.{List, [], _∷_, _++_}
 use lib.ListN.{length, drop, replicate}
 use Rattle.cells.specs.Cells.{Nibble, Byte, sub, unsub, step2}
-use Rattle.schedule.specs.Constants.{constant}
+use Rattle.constants.specs.Constants.{constant}
 use Rattle.rounds.specs.State.{State, cell, mixColumns}
 use Rattle.modes.specs.Blocks.{full, none, pad}
 use Rattle.modes.specs.Paef.{paefTweak, paefHead, paefBody}

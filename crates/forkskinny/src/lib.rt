@@ -248,7 +248,7 @@ pub fn fork_by(c: Cipher, key: [u8; 16], tweak: [u8; 16], block: [u8; 16], want:
     let m = reach_of(c, far);
     ciphers::bytes_known(&key);
     ciphers::bytes_known(&tweak);
-    let mut keys = schedule::constants::room();
+    let mut keys = constants::room();
     ciphers::lay_keys(c, &mut keys, m, ciphers::load_key(c, key, tweak));
     let s = to_fork(c, &keys, block);
     if want == 2 {
@@ -336,7 +336,7 @@ pub fn unfork_by(
     let m = reach_of(c, far);
     ciphers::bytes_known(&key);
     ciphers::bytes_known(&tweak);
-    let mut keys = schedule::constants::room();
+    let mut keys = constants::room();
     ciphers::lay_keys(c, &mut keys, m, ciphers::load_key(c, key, tweak));
     let s = unrun_branch(c, side_of(from), &keys, block);
     if want == 2 {

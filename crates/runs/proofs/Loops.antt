@@ -10,7 +10,7 @@ use lib.Bits.{bitXor, xor-comm}
 use Rattle.cells.specs.Cells.{Width, Words, LowCells, sub, unsub}
 use Rattle.cells.proofs.Xor.{xor-assoc}
 use Rattle.schedule.specs.declared.Tweakey.{Tweakey}
-use Rattle.schedule.specs.Constants.{constant, constantRow}
+use Rattle.constants.specs.Constants.{constant, constantRow}
 use Rattle.schedule.specs.Schedule.{roundKey, xorRow, advance, RoundKeys}
 use Rattle.schedule.proofs.Low.{constant-low, row-low, advance-low, key-low}
 use Rattle.schedule.proofs.Places.{advance-at, advance-add}

@@ -10,7 +10,7 @@ use Rattle.cells.specs.Cells.{Width, Nibble, Byte, LowCells, size, table4, unta
 use Rattle.cells.specs.Words.{lane, not8, near, far, pairOf, subPair, unsubPair, Each}
 use Rattle.cells.proofs.Laws.{sub-law, unsub-law}
 use Rattle.cells.proofs.Xor.{xor-last}
-use Rattle.schedule.specs.Constants.{constantRow}
+use Rattle.constants.specs.Constants.{constantRow}
 use Rattle.schedule.specs.Schedule.{xorRow}
 use Rattle.schedule.proofs.Low.{row-low}
 use Rattle.rounds.specs.State.{State, cell, four, row, grid, subBy, unround}

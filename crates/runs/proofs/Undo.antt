@@ -4,7 +4,7 @@ use mathlib.Core.Path.{_≡_, refl, ap, _∙_}
 use Prim.Native.Nat.{ℕ, zero, suc}
 use Rattle.cells.specs.Cells.{Width, Words, LowCells}
 use Rattle.schedule.specs.declared.Tweakey.{Tweakey}
-use Rattle.schedule.specs.Constants.{constant}
+use Rattle.constants.specs.Constants.{constant}
 use Rattle.schedule.specs.Schedule.{roundKey, advance}
 use Rattle.schedule.proofs.Low.{constant-low, advance-low, key-low}
 use Rattle.rounds.specs.State.{State}

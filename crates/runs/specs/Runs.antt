@@ -5,7 +5,7 @@ use mathlib.Core.List.{List}
 use Prim.Native.Nat.{ℕ, zero, suc}
 use Rattle.cells.specs.Cells.{Width, Words}
 use Rattle.schedule.specs.declared.Tweakey.{Tweakey}
-use Rattle.schedule.specs.Constants.{constant}
+use Rattle.constants.specs.Constants.{constant}
 use Rattle.schedule.specs.Schedule.{roundKey, advance, RoundKeys}
 use Rattle.rounds.specs.State.{State, round, unround}
 

@@ -13,8 +13,8 @@ use lib.ListN.{length, getD, length-set}
 use lib.Seq.{getD-set-same, getD-set-other}
 use Rattle.cells.specs.Cells.{Width, Words, LowCells}
 use Rattle.schedule.specs.declared.Tweakey.{Tweakey}
-use Rattle.schedule.specs.Constants.{constant, constantRow}
-use Rattle.schedule.specs.Schedule.{keyRow, roundKey, advance, xorRow, Room, RoundKeys}
+use Rattle.constants.specs.Constants.{constant, constantRow, Room}
+use Rattle.schedule.specs.Schedule.{keyRow, roundKey, advance, xorRow, RoundKeys}
 use Rattle.schedule.specs.Sixteen.{Sums, moved, rowLaid, pairLaid, Laid}
 use Rattle.schedule.proofs.Places.{advance-at, advance-add}
 use Rattle.schedule.proofs.Sixteen.{first-key, second-key}

@@ -8,7 +8,7 @@ use Rattle.cells.specs.Cells.{Width, Words, Two, Three, size, step2, step3, Low
 use Rattle.cells.proofs.Below.{tab}
 use Rattle.cells.proofs.Laws.{step2-law, step3-law, xor-low, small-low}
 use Rattle.schedule.specs.declared.Tweakey.{Tweakey}
-use Rattle.schedule.specs.Constants.{constant, constantRow}
+use Rattle.constants.specs.Constants.{constant, constantRow}
 use Rattle.schedule.specs.Schedule.{keyCell, roundKey, xorRow, permutedWords, stepped, nextCells, advance}
 use Rattle.schedule.proofs.Trails.{origin}
 

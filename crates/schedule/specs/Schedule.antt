@@ -4,10 +4,10 @@
 use mathlib.Core.Path.{_≡_}
 use Prim.Native.Nat.{ℕ, zero, suc, _+_, _<_}
 use mathlib.Core.List.{List, [], _∷_, _++_}
-use lib.ListN.{length, getD, set}
+use lib.ListN.{getD, set}
 use lib.Bits.{bitXor}
 use Rattle.cells.specs.Cells.{Width, Words, Two, Three, LowCells, step2, step3}
-use Rattle.schedule.specs.Constants.{constant, constantRow}
+use Rattle.constants.specs.Constants.{constant, constantRow}
 use Rattle.schedule.specs.declared.Tweakey.{Tweakey}
 
 -- ---- what a round takes: the top two rows of every word, xored (01, Tweakey; F.1, figure 19)
@@ -76,11 +76,6 @@ abbrev pub xorRow : List ℕ → List ℕ → List ℕ
 xorRow a b =
     bitXor (getD a 0 0) (getD b 0 0) ∷ bitXor (getD a 1 0) (getD b 1 0) ∷ bitXor (getD a 2 0) (getD b 2 0) ∷ bitXor (getD a 3 0) (getD b 3 0)
     ∷ bitXor (getD a 4 0) (getD b 4 0) ∷ bitXor (getD a 5 0) (getD b 5 0) ∷ bitXor (getD a 6 0) (getD b 6 0) ∷ bitXor (getD a 7 0) (getD b 7 0) ∷ []
-
--- a room with the constants of all rounds, each in its row
-pub record Room (rows : List (List ℕ)) : Type 0 where
-  pub long : length rows ≡ 97
-  pub at : (i : ℕ) → i < 87 → getD rows i [] ≡ constantRow (constant i)
 
 -- laid out one after the other; the tweakey's cells are of the width
 pub record RoundKeys (w : Width) (n : Words) (m : ℕ) (t : Tweakey) (keys : List (List ℕ)) : Type 0 where

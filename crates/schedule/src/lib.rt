@@ -1,15 +1,14 @@
 // The tweakey, how it goes sixteen rounds on at once, and the keys that the rounds take of it, laid on the round constants.
 // Two rounds step every cell of words 2 and 3 once, and move the cells of a word's upper half and of its lower half among
 // themselves; after sixteen rounds each stands where it stood. So cells are stepped where they stand, and only a key is moved.
-// A room for round keys has 97 rows: the first round's, and six times sixteen, for the 87 rounds of the longest cipher.
-pub mod constants;
-
+// The room for round keys is `constants::room`.
 ghost use mathlib.Core.Path.{_≡_};
 ghost use Prim.Native.Nat.{_+_, _*_, _<_, _≤_};
 ghost use mathlib.Core.List.{map};
 ghost use lib.ListN.{length, replicate};
 ghost use Rattle.cells.specs.Cells.{Nibble, Byte, Two, Three, LowCells};
-ghost use Rattle.schedule.specs.Schedule.{keyRow, advance, Room, RoundKeys};
+ghost use Rattle.constants.specs.Constants.{Room};
+ghost use Rattle.schedule.specs.Schedule.{keyRow, advance, RoundKeys};
 ghost use Rattle.schedule.specs.Sixteen.{standing, Sums, movedOnce, moved, rowLaid, pairLaid, Laid};
 
 // The tweakey: room for three words of sixteen cells, one after the other, and the number of rounds that it has served.

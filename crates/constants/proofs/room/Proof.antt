@@ -1,13 +1,13 @@
--- `schedule::constants::room` meets its contract: one computed test of the table against the rule; behind it ten rows of zeros.
+-- `constants::room` meets its contract: one computed test of the table against the rule; behind it ten rows of zeros.
 -- Assumes nothing.
 use mathlib.Core.Path.{refl, _∙_}
 use mathlib.Core.List.{List, []}
 use Prim.Native.Nat.{ℕ}
 use lib.ListN.{replicate, List·getD-append}
 use Rattle.cells.proofs.Below.{tab, tab-at}
-use Rattle.schedule.specs.Constants.{constant, constantRow}
-use Rattle.schedule.proofs.constants.room.Statement.{statement}
-use Rattle.schedule.proofs.constants.room.Tie as tie
+use Rattle.constants.specs.Constants.{constant, constantRow}
+use Rattle.constants.proofs.room.Statement.{statement}
+use Rattle.constants.proofs.room.Tie as tie
 
 returns : tie.Need-returns
 unfolding constant
