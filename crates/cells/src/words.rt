@@ -1,7 +1,7 @@
 // The cells by their bits, four bytes or eight nibbles of a word at once, with no table.
-// A word holds complements, so that the rule's "both bits are 0" is an `and` of two bits. A byte's steps 1 to 3 move no bit: the turns after
-// them are put off, and each step looks for its bits where they still stand. (The spelling is the one of which the compiler makes the least,
-// four words at once; docs/SPEED.md.)
+// A word holds complements, so that the rule's "both bits are 0" is an `and` of two bits. A byte's steps 1 to 3 move no bit: the shuffles
+// after them are put off, and each step looks for its bits where they still stand. (The spelling is the one of which the compiler makes the
+// least, four words at once; docs/SPEED.md.)
 ghost use Rattle.cells.specs.Cells.{Byte, sub, unsub};
 ghost use Rattle.cells.specs.Words.{Each, subPair, unsubPair};
 
@@ -9,7 +9,7 @@ ghost use Rattle.cells.specs.Words.{Each, subPair, unsubPair};
 pub fn sub_bytes(y: u32) -> u32
     ensures { λ r. ⌜ Each (sub Byte) y r ⌝ }
 {
-    // Steps 1, 2 and 3; the three turns and the last swap at once; step 4, whose bits have come to 4 and 0.
+    // Steps 1, 2 and 3; the three shuffles and the last swap at once; step 4, whose bits have come to 4 and 0.
     let a = y ^ (((y >> 3) & 0x11111111) & ((y >> 2) & 0x11111111));
     let b = a ^ ((a << 5) & (a << 4) & 0x40404040) ^ ((a << 5) & (a << 1) & 0x20202020);
     let c = b ^ (((b << 1) & 0x82828282) & (((b >> 2) & 0x02020202) | ((b << 2) & 0x80808080)));
@@ -26,7 +26,7 @@ pub fn sub_bytes(y: u32) -> u32
 pub fn unsub_bytes(y: u32) -> u32
     ensures { λ r. ⌜ Each (unsub Byte) y r ⌝ }
 {
-    // Step 4 undone; swap and turns at once; steps 3, 2 and 1.
+    // Step 4 undone; swap and shuffles at once; steps 3, 2 and 1.
     let a = y ^ (((y >> 3) & 0x11111111) & (((y >> 2) & 0x10101010) | ((y >> 1) & 0x01010101)));
     let b = ((a >> 2) & 0x32323232)
         | ((a >> 5) & 0x01010101)
