@@ -1,6 +1,6 @@
 // Rounds in a row under a cipher: those of its kind of cell.
 ghost use Prim.Native.Nat.{_+_, _<_, _≤_};
-ghost use Rattle.runs.specs.Runs.{Ran, Unran};
+ghost use Rattle.runs.specs.Runs.{Ran, Unran, RanBoth, RanApart};
 ghost use Rattle.ciphers.specs.Ciphers.{widthOf};
 use ciphers::Cipher;
 
@@ -48,7 +48,7 @@ pub fn run_both(
     far: &mut [[u8; 4]; 4],
 ) -> [[u8; 4]; 4]
     requires { ⌜ (0 < count) × (from + count + count ≤ 87) ⌝ }
-    ensures { λ r. ⌜ Ran (widthOf c) (from + count + count) (now (keys .entry)) from count near r × Ran (widthOf c) (from + count + count) (now (keys .entry)) (from + count) count (now (far .entry)) (now (far .exit)) ⌝ }
+    ensures { λ r. ⌜ RanBoth (widthOf c) (now (keys .entry)) from count near r (now (far .entry)) (now (far .exit)) ⌝ }
 {
     match c {
         Cipher::N64T192 => runs::nibbles::run_both(keys, from, count, near, far),
@@ -67,7 +67,7 @@ pub fn run_apart(
     other: &mut [[u8; 4]; 4],
 ) -> [[u8; 4]; 4]
     requires { ⌜ (0 < n) × (n < count) × (from + count ≤ 87) ⌝ }
-    ensures { λ r. ⌜ Unran (widthOf c) (from + count) (now (keys .entry)) 0 n s r × Ran (widthOf c) (from + count) (now (keys .entry)) from count (now (other .entry)) (now (other .exit)) ⌝ }
+    ensures { λ r. ⌜ RanApart (widthOf c) (now (keys .entry)) n from count s r (now (other .entry)) (now (other .exit)) ⌝ }
 {
     match c {
         Cipher::N64T192 => runs::nibbles::run_apart(keys, n, from, count, s, other),

@@ -2,7 +2,7 @@
 -- paper. Assumes nothing.
 use mathlib.Core.Path.{_≡_}
 use mathlib.Core.List.{List}
-use Prim.Native.Nat.{ℕ, zero, suc}
+use Prim.Native.Nat.{ℕ, zero, suc, _+_}
 use Rattle.cells.specs.Cells.{Width, Words}
 use Rattle.schedule.specs.declared.Tweakey.{Tweakey}
 use Rattle.constants.specs.Constants.{constant}
@@ -32,3 +32,12 @@ pub record Ran (w : Width) (m : ℕ) (keys : List (List ℕ)) (from count : ℕ)
 
 pub record Unran (w : Width) (m : ℕ) (keys : List (List ℕ)) (from count : ℕ) (s r : State) : Type 0 where
   pub by : (n : Words) (t : Tweakey) → RoundKeys w n m t keys → r ≡ unrounds w n count (advance w n from t) s
+
+-- two states side by side, the second from as many rounds later on
+abbrev pub RanBoth : Width → List (List ℕ) → ℕ → ℕ → State → State → State → State → Type 0
+RanBoth w keys from count s r s′ r′ =
+    Ran w (from + count + count) keys from count s r × Ran w (from + count + count) keys (from + count) count s′ r′
+
+-- two states from the fork: of the first n rounds undone, of the second count rounds run from round `from` on
+abbrev pub RanApart : Width → List (List ℕ) → ℕ → ℕ → ℕ → State → State → State → State → Type 0
+RanApart w keys n from count s r s′ r′ = Unran w (from + count) keys 0 n s r × Ran w (from + count) keys from count s′ r′

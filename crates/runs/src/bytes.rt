@@ -2,7 +2,7 @@
 // compiler works them at once. Forward, the cells of the first round come before the loop and the linear part of the last behind it.)
 ghost use Prim.Native.Nat.{_+_, _<_, _≤_};
 ghost use Rattle.cells.specs.Cells.{Byte};
-ghost use Rattle.runs.specs.Runs.{Ran, Unran};
+ghost use Rattle.runs.specs.Runs.{Ran, Unran, RanBoth, RanApart};
 use cells::words::sub_bytes;
 use cells::words::unsub_bytes;
 use rounds::linear_with;
@@ -66,7 +66,7 @@ pub fn run_both(
     far: &mut [[u8; 4]; 4],
 ) -> [[u8; 4]; 4]
     requires { ⌜ (0 < count) × (from + count + count ≤ 87) ⌝ }
-    ensures { λ r. ⌜ Ran Byte (from + count + count) (now (keys .entry)) from count near r × Ran Byte (from + count + count) (now (keys .entry)) (from + count) count (now (far .entry)) (now (far .exit)) ⌝ }
+    ensures { λ r. ⌜ RanBoth Byte (now (keys .entry)) from count near r (now (far .entry)) (now (far .exit)) ⌝ }
 {
     let u = words_of(near);
     let v = words_of(*far);
@@ -115,7 +115,7 @@ pub fn run_apart(
     other: &mut [[u8; 4]; 4],
 ) -> [[u8; 4]; 4]
     requires { ⌜ (0 < n) × (n < count) × (from + count ≤ 87) ⌝ }
-    ensures { λ r. ⌜ Unran Byte (from + count) (now (keys .entry)) 0 n s r × Ran Byte (from + count) (now (keys .entry)) from count (now (other .entry)) (now (other .exit)) ⌝ }
+    ensures { λ r. ⌜ RanApart Byte (now (keys .entry)) n from count s r (now (other .entry)) (now (other .exit)) ⌝ }
 {
     let mut x = words_of(s);
     let v = words_of(*other);

@@ -2,7 +2,7 @@
 // compiler works them at once. Forward, the cells of the first round come before the loop and the linear part of the last behind it.)
 ghost use Prim.Native.Nat.{_+_, _<_, _≤_};
 ghost use Rattle.cells.specs.Cells.{Nibble};
-ghost use Rattle.runs.specs.Runs.{Ran, Unran};
+ghost use Rattle.runs.specs.Runs.{Ran, Unran, RanBoth, RanApart};
 use cells::words::sub_nibbles;
 use cells::words::unsub_nibbles;
 use rounds::linear_with;
@@ -69,7 +69,7 @@ pub fn run_both(
     far: &mut [[u8; 4]; 4],
 ) -> [[u8; 4]; 4]
     requires { ⌜ (0 < count) × (from + count + count ≤ 87) ⌝ }
-    ensures { λ r. ⌜ Ran Nibble (from + count + count) (now (keys .entry)) from count near r × Ran Nibble (from + count + count) (now (keys .entry)) (from + count) count (now (far .entry)) (now (far .exit)) ⌝ }
+    ensures { λ r. ⌜ RanBoth Nibble (now (keys .entry)) from count near r (now (far .entry)) (now (far .exit)) ⌝ }
 {
     let y = words_of(pair_of(near, *far));
     let mut x = [
@@ -105,7 +105,7 @@ pub fn run_apart(
     other: &mut [[u8; 4]; 4],
 ) -> [[u8; 4]; 4]
     requires { ⌜ (0 < n) × (n < count) × (from + count ≤ 87) ⌝ }
-    ensures { λ r. ⌜ Unran Nibble (from + count) (now (keys .entry)) 0 n s r × Ran Nibble (from + count) (now (keys .entry)) from count (now (other .entry)) (now (other .exit)) ⌝ }
+    ensures { λ r. ⌜ RanApart Nibble (now (keys .entry)) n from count s r (now (other .entry)) (now (other .exit)) ⌝ }
 {
     let mut x = words_of(s);
     let v = words_of(*other);
