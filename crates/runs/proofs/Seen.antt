@@ -152,6 +152,14 @@ first-cell a b =
 second-cell : (a b : ℕ) → far (subPair (pairOf (near a) (near b))) ≡ sub Nibble b
 second-cell a b = far-forward (pairOf (near a) (near b)) ∙ ap (sub Nibble) (far-pair (near a) (near b) (omega arith)) ∙ sub-near b
 
+-- where what is seen of two rows of nibbles in one is the row r, the linear part with both is seen as that with r
+pair-linear
+    : {v : ℕ → ℕ} → View v → v 34 ≡ 2 → (t u r : List ℕ) → ((j : ℕ) → v (bitXor (getD t j 0) (getD u j 0 * 16)) ≡ getD r j 0) → (s : State)
+    → subBy v (linearBy 34 (pairRow t u) s) ≡ linear r (subBy v s)
+unfolding linearBy
+pair-linear {v} h two t u r e s =
+    linear-view h 34 (pairRow t u) s ∙ λ i. linearBy (two i) (e 0 i ∷ e 1 i ∷ e 2 i ∷ e 3 i ∷ e 4 i ∷ e 5 i ∷ e 6 i ∷ e 7 i ∷ []) (subBy v s)
+
 -- two rows of nibbles in one, seen
 module _ (t u : List ℕ) (p : LowCells Nibble t) (q : LowCells Nibble u) where
   near-cell : (j : ℕ) → near (bitXor (getD t j 0) (getD u j 0 * 16)) ≡ getD t j 0
@@ -167,20 +175,10 @@ module _ (t u : List ℕ) (p : LowCells Nibble t) (q : LowCells Nibble u) where
       far-view .xor (getD t j 0) (getD u j 0 * 16) ∙ (λ i. bitXor (a i) (b i))
 
   near-linear : (s : State) → subBy near (linearBy 34 (pairRow t u) s) ≡ linear t (subBy near s)
-  unfolding linearBy
-  near-linear s =
-      linear-view near-view 34 (pairRow t u) s
-      ∙ λ i. linearBy 2
-      (near-cell 0 i ∷ near-cell 1 i ∷ near-cell 2 i ∷ near-cell 3 i ∷ near-cell 4 i ∷ near-cell 5 i ∷ near-cell 6 i ∷ near-cell 7 i ∷ [])
-      (subBy near s)
+  near-linear = pair-linear near-view refl t u t near-cell
 
   far-linear : (s : State) → subBy far (linearBy 34 (pairRow t u) s) ≡ linear u (subBy far s)
-  unfolding linearBy
-  far-linear s =
-      linear-view far-view 34 (pairRow t u) s
-      ∙ λ i. linearBy 2
-      (far-cell 0 i ∷ far-cell 1 i ∷ far-cell 2 i ∷ far-cell 3 i ∷ far-cell 4 i ∷ far-cell 5 i ∷ far-cell 6 i ∷ far-cell 7 i ∷ [])
-      (subBy far s)
+  far-linear = pair-linear far-view refl t u u far-cell
 
 -- both states after so many rounds, the second from `later` on
 pub record BothBegun (m : ℕ) (keys : List (List ℕ)) (from later : ℕ) (x₀ : List ℕ) (i : ℕ) (x : List ℕ) : Type 0 where
