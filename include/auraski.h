@@ -1,4 +1,5 @@
-/* Auraski for C: sealing and opening of records with PAEF and SAEF, the rounds that they run, and ForkSkinny's block calls.
+/* Auraski for C: sealing and opening of records with PAEF and SAEF, the rounds that they run, ForkSkinny's block calls, and keys prepared
+ * once for many calls.
  *
  * SPDX-License-Identifier: 0BSD
  *
@@ -7,16 +8,17 @@
  * interrupt handler. It calls memcpy and memset and nothing else, allocates nothing, prints nothing and keeps nothing from one call to the
  * next: calls may run at the same time in several threads. A call does not wipe its stack: parts of key and body may stay behind there.
  *
- * Which memory a call reads or writes, and how it branches, does not depend on key, body or block: no table is read at a place that does. The
- * one exception is the answer of auraski_open: where it judges a run, it branches on it once, and for 6 clears the room. That is tested on
- * the machine code, not proved. Nothing more is said of the time that a call takes. It may depend on lengths, nonce, tweak, header and sealed
- * run, which are no secrets here.
+ * Which memory a call reads or writes, and how it branches, does not depend on key, prepared key, body or block: no table is read at a place
+ * that does. There are two exceptions, which are answers: a call that judges a run branches once on whether it is authentic, and for 6 clears
+ * the room; and a call that is given a prepared key branches once on whether it is admitted. That is tested on the machine code, not
+ * proved. Nothing more is said of the time that a call takes. It may depend on lengths, nonce, tweak, header and sealed run, which are no
+ * secrets here.
  *
  * A pointer stands for as many bytes as the length behind it says, `length` for one size_t and `rounds` for one uint32_t. No pointer may be
  * null; where the length is 0 any other will do, such as the address of any object, and nothing is read or written through it. What a call
- * writes (room and *length, *rounds, or both result blocks) must not overlap anything else that it is given, so that nothing is sealed or
- * opened in place; what it only reads may overlap. A call changes nothing but what is said below, and returns, for every value of every
- * argument and every length.
+ * writes (room and *length, *rounds, both result blocks, or the prepared key) must not overlap anything else that it is given, so that nothing
+ * is sealed or opened in place; what it only reads may overlap. A call changes nothing but what is said below, and returns, for every value of
+ * every argument and every length.
  *
  * What is proved is proved of the library's source. That its machine code does the same, and that the prototypes below fit what it exports,
  * is assumed, and tested. Take the header that came with the library: nothing checks that the two belong together.
@@ -28,15 +30,15 @@
 #include <stdint.h>
 
 /* The same as `pkg-config --modversion auraski` says. */
-#define AURASKI_VERSION "0.6.0"
+#define AURASKI_VERSION "0.7.0"
 #define AURASKI_VERSION_MAJOR 0
-#define AURASKI_VERSION_MINOR 6
+#define AURASKI_VERSION_MINOR 7
 #define AURASKI_VERSION_PATCH 0
 
 /* A call takes at most so many bytes of stack, its arguments included, whatever the record's length: an empty one takes as much as one with
  * a header and a body of 1,048,576 bytes. This is measured, not proved, with the names of the C library bound before the call (-static or
  * -Wl,-z,now): where the loader binds them at the first call, its own stack comes on top. */
-#define AURASKI_STACK_BYTES 3072u
+#define AURASKI_STACK_BYTES 5120u
 
 /* GCC and clang warn of an answer that is not looked at, and of a null pointer where they see that it is one; where they don't, they go by
  * it that it is none. */
@@ -86,7 +88,7 @@ extern "C" {
 /* Answers, in the order of the checks: the first that applies answers, and if none does, it is 0. So a number also says that all before
  * it was right. */
 #define AURASKI_UNKNOWN 1u            /* no such scheme (block calls: no such cipher, half or choice) */
-#define AURASKI_WRONG_KEY_LENGTH 2u   /* the key's length is not the scheme's */
+#define AURASKI_WRONG_KEY_LENGTH 2u   /* the key's length is not the scheme's (a prepared key: not admitted under the cipher) */
 #define AURASKI_WRONG_NONCE_LENGTH 7u /* the nonce's length is not the scheme's */
 #define AURASKI_HEADER_TOO_LONG 3u    /* the header is longer than the scheme takes */
 #define AURASKI_BODY_TOO_LONG 8u      /* the body is longer than the scheme takes (open: the run less a block) */
@@ -152,6 +154,39 @@ uint32_t auraski_fork(uint32_t cipher, const uint8_t key[16], const uint8_t twea
 /* Back: `block` is the half that `from` says. The input block (the first result) and the other half (the second). */
 uint32_t auraski_unfork(uint32_t cipher, const uint8_t key[16], const uint8_t tweak[16], const uint8_t block[16],
                         uint32_t from, uint32_t want, uint8_t input[16], uint8_t other[16]) AURASKI_CHECKED;
+
+/* ---- a key prepared once, for many calls ---- */
+
+/* What a key gives to the rounds of the cipher is the same for every block of every record. It can be worked out once and then be given to
+ * the calls below in place of the key: for the same arguments they answer as the calls by key, and run as many rounds.
+ *
+ * A prepared key holds the key. It is as secret as the key, and its owner has to wipe it as well. It has this many bytes, at any address;
+ * what they are is the library's own affair and may change with its version. */
+#define AURASKI_PREPARED 801u
+
+/* Prepares a key for a cipher: AURASKI_64_192 for scheme 1, AURASKI_128_256 for schemes 2 and 3. Answers 0; or 1 (no such cipher) or 2 (the
+ * key does not have 16 bytes), in this order: then `prepared` is all zeros, which no call admits. */
+uint32_t auraski_prepare(uint32_t cipher, const uint8_t *key, size_t key_len,
+                         uint8_t prepared[AURASKI_PREPARED]) AURASKI_CHECKED;
+
+/* A prepared key is admitted under a cipher exactly if auraski_prepare gives it for that cipher and some key: each of its bytes is judged, by
+ * every call anew. One that is not admitted, because it was prepared for the other cipher, refused or damaged, is refused with 2. Nothing
+ * tells whether it is the right key's.
+ *
+ * As auraski_seal and auraski_open. 2 stands where it stands there, behind 1 and before 7. */
+uint32_t auraski_seal_prepared(uint32_t scheme, const uint8_t prepared[AURASKI_PREPARED], const uint8_t *nonce,
+                               size_t nonce_len, const uint8_t *header, size_t header_len, const uint8_t *body,
+                               size_t body_len, uint8_t *room, size_t room_len, size_t *length) AURASKI_CHECKED;
+uint32_t auraski_open_prepared(uint32_t scheme, const uint8_t prepared[AURASKI_PREPARED], const uint8_t *nonce,
+                               size_t nonce_len, const uint8_t *header, size_t header_len, const uint8_t *sealed,
+                               size_t sealed_len, uint8_t *room, size_t room_len, size_t *length) AURASKI_CHECKED;
+
+/* As auraski_fork and auraski_unfork, and refused with 1 as they are; then with 2, and both result blocks are zeros. */
+uint32_t auraski_fork_prepared(uint32_t cipher, const uint8_t prepared[AURASKI_PREPARED], const uint8_t tweak[16],
+                               const uint8_t block[16], uint32_t want, uint8_t half0[16], uint8_t half1[16]) AURASKI_CHECKED;
+uint32_t auraski_unfork_prepared(uint32_t cipher, const uint8_t prepared[AURASKI_PREPARED], const uint8_t tweak[16],
+                                 const uint8_t block[16], uint32_t from, uint32_t want, uint8_t input[16],
+                                 uint8_t other[16]) AURASKI_CHECKED;
 
 #ifdef __cplusplus
 }

@@ -48,12 +48,15 @@ static void run_case(const struct options *o, uint64_t number)
 {
     struct random d = random_of(o->seed, number);
     report_case(o->seed, number, o->alone);
-    switch (below(&d, 8)) {
+    switch (below(&d, 9)) {
     case 0:
         rounds_case(&d);
         break;
     case 1:
+        prepare_case(&d);
+        break;
     case 2:
+    case 3:
         block_case(&d);
         break;
     default:

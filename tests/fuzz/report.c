@@ -10,9 +10,10 @@
 
 enum { NUMBERS = 9, LONGEST_CASE_SECONDS = 300 };
 
-static const char *const names[ENTRIES] = {"seal", "open", "rounds", "fork", "unfork"};
+static const char *const names[ENTRIES] = {"seal",    "open",          "rounds",        "fork",          "unfork",
+                                           "prepare", "seal_prepared", "open_prepared", "fork_prepared", "unfork_prepared"};
 /* The numbers that each can answer. */
-static const char *const can_answer[ENTRIES] = {"0123578", "012345678", "0138", "01", "01"};
+static const char *const can_answer[ENTRIES] = {"0123578", "012345678", "0138", "01", "01", "012", "0123578", "012345678", "012", "012"};
 
 static uint64_t answers[ENTRIES][NUMBERS];
 static int runs_alone;

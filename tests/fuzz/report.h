@@ -4,7 +4,7 @@
 
 #include <stdint.h>
 
-enum entry { SEAL, OPEN, ROUNDS, FORK, UNFORK, ENTRIES };
+enum entry { SEAL, OPEN, ROUNDS, FORK, UNFORK, PREPARE, SEAL_PREPARED, OPEN_PREPARED, FORK_PREPARED, UNFORK_PREPARED, ENTRIES };
 
 /* From now on a call that touches what it may not, or does not end, is told with its case. */
 void report_faults(void);

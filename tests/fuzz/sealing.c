@@ -1,7 +1,8 @@
-/* Cases of seal and open: a record is sealed, sealed again in another room, and opened, as it is or damaged. */
-#include "auraski.h"
+/* Cases of seal and open: a record is sealed, sealed again in another room, and opened, as it is or damaged; each time by key and then with a
+ * prepared key. */
 #include "cases.h"
 #include "damage.h"
+#include "prepared.h"
 #include "report.h"
 
 #include <string.h>
@@ -15,9 +16,9 @@ static void place_field(struct guarded *g, const struct field *f, struct random 
     guarded_put(g, f->bytes, held(f));
 }
 
+/* All but the key. */
 static void place(const struct record *r, size_t room_size, struct random *d)
 {
-    place_field(&key, &r->key, d);
     place_field(&nonce, &r->nonce, d);
     place_field(&header, &r->header, d);
     place_field(&text, &r->text, d);
@@ -25,17 +26,26 @@ static void place(const struct record *r, size_t room_size, struct random *d)
     guarded_place(&length, sizeof(size_t), sizeof(size_t), d);
 }
 
-/* Seals or opens, in a new place: the number that is answered must be the one that is due. */
+/* The number that the entry answers to what was placed. */
+static uint32_t answer(enum entry entry, uint32_t scheme)
+{
+    if (entry == SEAL || entry == OPEN) {
+        return (entry == SEAL ? auraski_seal : auraski_open)(scheme, key.bytes, key.size, nonce.bytes, nonce.size, header.bytes, header.size,
+                                                             text.bytes, text.size, room.bytes, room.size, (size_t *)length.bytes);
+    }
+    return (entry == SEAL_PREPARED ? auraski_seal_prepared : auraski_open_prepared)(
+        scheme, key.bytes, nonce.bytes, nonce.size, header.bytes, header.size, text.bytes, text.size, room.bytes, room.size,
+        (size_t *)length.bytes);
+}
+
+/* Seals or opens, in a new place but for the key: the number that is answered must be the one that is due. */
 static void call(enum entry entry, const struct record *r, size_t room_size, uint32_t due, struct random *d)
 {
     place(r, room_size, d);
     report_call(entry, "scheme %lu, key %zu, nonce %zu, header %zu, text %zu, room %zu", (unsigned long)r->scheme, key.size, nonce.size,
                 header.size, text.size, room.size);
     dirty_stack(d);
-    uint32_t number =
-        (entry == SEAL ? auraski_seal : auraski_open)(r->scheme, key.bytes, key.size, nonce.bytes, nonce.size, header.bytes, header.size,
-                                                      text.bytes, text.size, room.bytes, room.size, (size_t *)length.bytes);
-    report_answer(entry, number, due);
+    report_answer(entry, answer(entry, r->scheme), due);
 }
 
 /* Judges what the call left: so many bytes told, `changed` bytes of the room as they must be now, and nothing else touched. */
@@ -51,11 +61,28 @@ static void judge(size_t told, const uint8_t *front, size_t changed)
     guarded_judge(&text, "text");
 }
 
-/* Seals. If the run is not known yet (its size is 0), whatever stands at the front of the room is taken for it. */
-static uint32_t seal_once(const struct record *r, size_t room_size, struct field *run, struct random *d)
+/* Puts what the call gets for its key to a new place: the key. Whether it fits. */
+static int place_key(const struct record *r, struct random *d)
 {
-    uint32_t due = due_of_seal(r, room_size);
-    call(SEAL, r, room_size, due, d);
+    place_field(&key, &r->key, d);
+    return r->key.size == KEY_SIZE;
+}
+
+/* The same with a prepared key. */
+static int place_prepared(const struct record *r, struct random *d)
+{
+    uint8_t prepared[AURASKI_PREPARED];
+    int admitted = draw_prepared(fitting(r, d)->cipher, &r->key, prepared, d);
+    guarded_place(&key, sizeof prepared, 1, d);
+    guarded_put(&key, prepared, sizeof prepared);
+    return admitted;
+}
+
+/* Seals, with a key that was placed. If the run is not known yet (its size is 0), whatever stands at the front of the room is taken for it. */
+static uint32_t seal_with(enum entry entry, const struct record *r, int key_fits, size_t room_size, struct field *run, struct random *d)
+{
+    uint32_t due = due_of_seal(r, key_fits, room_size);
+    call(entry, r, room_size, due, d);
     if (due != 0) {
         judge(0, zeros, 0);
         return due;
@@ -68,11 +95,19 @@ static uint32_t seal_once(const struct record *r, size_t room_size, struct field
     return due;
 }
 
-/* Opens. If the record is as it was sealed, this is the body that must come. */
-static void open_once(const struct record *r, size_t room_size, const struct field *body, struct random *d)
+/* Both ways: the number of the seal by key. */
+static uint32_t seal_once(const struct record *r, size_t room_size, struct field *run, struct random *d)
 {
-    uint32_t due = due_of_open(r, room_size, body != NULL);
-    call(OPEN, r, room_size, due, d);
+    uint32_t number = seal_with(SEAL, r, place_key(r, d), room_size, run, d);
+    seal_with(SEAL_PREPARED, r, place_prepared(r, d), room_size, run, d);
+    return number;
+}
+
+/* Opens, with a key that was placed. If the record is as it was sealed, this is the body that must come. */
+static void open_with(enum entry entry, const struct record *r, int key_fits, size_t room_size, const struct field *body, struct random *d)
+{
+    uint32_t due = due_of_open(r, key_fits, room_size, body != NULL);
+    call(entry, r, room_size, due, d);
     if (due == 0) {
         judge(body->size, body->bytes, body->size);
     } else {
@@ -102,7 +137,9 @@ static void open_some(const struct record *r, const struct field *body, struct r
 {
     size_t block = fitting(r, d)->block;
     size_t output = held(&r->text) < block ? 0 : held(&r->text) - block;
-    open_once(r, some_room(r, output, d), body, d);
+    size_t room_size = some_room(r, output, d);
+    open_with(OPEN, r, place_key(r, d), room_size, body, d);
+    open_with(OPEN_PREPARED, r, place_prepared(r, d), room_size, body, d);
 }
 
 void sealing_case(struct random *d)

@@ -2,17 +2,17 @@
 
 const struct scheme *scheme_of(uint32_t number)
 {
-    static const struct scheme schemes[] = {{8, 6, 65528, 40, 63}, {16, 14, 131056, 48, 75}, {16, 15, 1048576, 48, 75}};
+    static const struct scheme schemes[] = {{1, 8, 6, 65528, 40, 63}, {2, 16, 14, 131056, 48, 75}, {2, 16, 15, 1048576, 48, 75}};
     return number >= 1 && number <= 3 ? &schemes[number - 1] : NULL;
 }
 
 /* By the checks that seal and open begin with: the number that is due, or 0. */
-static uint32_t due_of_both(const struct record *r, const struct scheme *scheme)
+static uint32_t due_of_both(const struct record *r, int key_fits, const struct scheme *scheme)
 {
     if (scheme == NULL) {
         return 1;
     }
-    if (r->key.size != KEY_SIZE) {
+    if (!key_fits) {
         return 2;
     }
     if (r->nonce.size != scheme->nonce) {
@@ -21,10 +21,10 @@ static uint32_t due_of_both(const struct record *r, const struct scheme *scheme)
     return r->header.size > scheme->limit ? 3 : 0;
 }
 
-uint32_t due_of_seal(const struct record *r, size_t room)
+uint32_t due_of_seal(const struct record *r, int key_fits, size_t room)
 {
     const struct scheme *scheme = scheme_of(r->scheme);
-    uint32_t due = due_of_both(r, scheme);
+    uint32_t due = due_of_both(r, key_fits, scheme);
     if (due != 0) {
         return due;
     }
@@ -34,10 +34,10 @@ uint32_t due_of_seal(const struct record *r, size_t room)
     return room < r->text.size + scheme->block ? 5 : 0;
 }
 
-uint32_t due_of_open(const struct record *r, size_t room, int authentic)
+uint32_t due_of_open(const struct record *r, int key_fits, size_t room, int authentic)
 {
     const struct scheme *scheme = scheme_of(r->scheme);
-    uint32_t due = due_of_both(r, scheme);
+    uint32_t due = due_of_both(r, key_fits, scheme);
     if (due != 0) {
         return due;
     }
@@ -64,6 +64,14 @@ uint32_t due_of_rounds(uint32_t number, size_t header, size_t body)
         return 3;
     }
     return body > scheme->limit ? 8 : 0;
+}
+
+uint32_t due_of_prepare(uint32_t cipher, size_t key)
+{
+    if (cipher != 1 && cipher != 2) {
+        return 1;
+    }
+    return key == KEY_SIZE ? 0 : 2;
 }
 
 /* Gone over one by one, so that a short last block needs no thought. */

@@ -1,5 +1,5 @@
-/* One call, which CALL names (1 seal, 2 open, 3 fork, 4 unfork, 5 rounds), as it should be. With one of the pointers below defined as NULL,
- * or with IGNORED defined, a compiler that takes warnings as errors has to refuse it. */
+/* One call, which CALL names (the numbers are below), as it should be. With one of the pointers below defined as NULL, or with IGNORED defined,
+ * a compiler that takes warnings as errors has to refuse it. */
 #include "auraski.h"
 
 /* A second time: nothing is said twice. */
@@ -10,37 +10,40 @@
 #endif
 
 #ifndef KEY
-#define KEY key
+#define KEY given->key
 #endif
 #ifndef NONCE
-#define NONCE nonce
+#define NONCE given->nonce
 #endif
 #ifndef HEADER
-#define HEADER header
+#define HEADER given->header
 #endif
 #ifndef TEXT
-#define TEXT text
+#define TEXT given->text
 #endif
 #ifndef ROOM
-#define ROOM room
+#define ROOM given->room
 #endif
 #ifndef LENGTH
-#define LENGTH length
+#define LENGTH given->length
 #endif
 #ifndef TWEAK
-#define TWEAK tweak
+#define TWEAK given->tweak
 #endif
 #ifndef BLOCK
-#define BLOCK block
+#define BLOCK given->block
 #endif
 #ifndef FIRST
-#define FIRST first
+#define FIRST given->first
 #endif
 #ifndef SECOND
-#define SECOND second
+#define SECOND given->second
 #endif
 #ifndef ROUNDS
-#define ROUNDS rounds
+#define ROUNDS given->rounds
+#endif
+#ifndef PREPARED
+#define PREPARED given->prepared
 #endif
 
 #ifdef IGNORED
@@ -49,40 +52,43 @@
 #define LOOKED_AT answer =
 #endif
 
-#if CALL == 1 || CALL == 2
+/* What seal and open have in common, behind the key. */
+#define REST NONCE, AURASKI_SAEF_128_256_NONCE, HEADER, 0, TEXT, 16, ROOM, 32, LENGTH
+
+struct given {
+    const uint8_t *key, *nonce, *header, *text, *tweak, *block;
+    uint8_t *room, *first, *second, *prepared;
+    size_t *length;
+    uint32_t *rounds;
+};
+
+uint32_t call(const struct given *given);
+uint32_t call(const struct given *given)
+{
+    uint32_t answer = AURASKI_DONE;
+    (void)given;
 #if CALL == 1
-#define NAME auraski_seal
-#else
-#define NAME auraski_open
-#endif
-uint32_t call(const uint8_t *key, const uint8_t *nonce, const uint8_t *header, const uint8_t *text, uint8_t *room, size_t *length);
-uint32_t call(const uint8_t *key, const uint8_t *nonce, const uint8_t *header, const uint8_t *text, uint8_t *room, size_t *length)
-{
-    uint32_t answer = AURASKI_DONE;
-    (void)key, (void)nonce, (void)header, (void)text, (void)room, (void)length;
-    LOOKED_AT NAME(AURASKI_SAEF_128_256, KEY, AURASKI_KEY_BYTES, NONCE, AURASKI_SAEF_128_256_NONCE, HEADER, 0, TEXT, 16, ROOM, 32, LENGTH);
-    return answer;
-}
-#elif CALL == 5
-uint32_t call(uint32_t *rounds);
-uint32_t call(uint32_t *rounds)
-{
-    uint32_t answer = AURASKI_DONE;
-    (void)rounds;
-    LOOKED_AT auraski_rounds(AURASKI_SAEF_128_256, 0, 16, ROUNDS);
-    return answer;
-}
-#else
-uint32_t call(const uint8_t *key, const uint8_t *tweak, const uint8_t *block, uint8_t *first, uint8_t *second);
-uint32_t call(const uint8_t *key, const uint8_t *tweak, const uint8_t *block, uint8_t *first, uint8_t *second)
-{
-    uint32_t answer = AURASKI_DONE;
-    (void)key, (void)tweak, (void)block, (void)first, (void)second;
-#if CALL == 3
+    LOOKED_AT auraski_seal(AURASKI_SAEF_128_256, KEY, AURASKI_KEY_BYTES, REST);
+#elif CALL == 2
+    LOOKED_AT auraski_open(AURASKI_SAEF_128_256, KEY, AURASKI_KEY_BYTES, REST);
+#elif CALL == 3
     LOOKED_AT auraski_fork(AURASKI_64_192, KEY, TWEAK, BLOCK, AURASKI_BOTH, FIRST, SECOND);
-#else
+#elif CALL == 4
     LOOKED_AT auraski_unfork(AURASKI_64_192, KEY, TWEAK, BLOCK, AURASKI_HALF_1, AURASKI_BOTH, FIRST, SECOND);
+#elif CALL == 5
+    LOOKED_AT auraski_rounds(AURASKI_SAEF_128_256, 0, 16, ROUNDS);
+#elif CALL == 6
+    LOOKED_AT auraski_prepare(AURASKI_128_256, KEY, AURASKI_KEY_BYTES, PREPARED);
+#elif CALL == 7
+    LOOKED_AT auraski_seal_prepared(AURASKI_SAEF_128_256, PREPARED, REST);
+#elif CALL == 8
+    LOOKED_AT auraski_open_prepared(AURASKI_SAEF_128_256, PREPARED, REST);
+#elif CALL == 9
+    LOOKED_AT auraski_fork_prepared(AURASKI_64_192, PREPARED, TWEAK, BLOCK, AURASKI_BOTH, FIRST, SECOND);
+#elif CALL == 10
+    LOOKED_AT auraski_unfork_prepared(AURASKI_64_192, PREPARED, TWEAK, BLOCK, AURASKI_HALF_1, AURASKI_BOTH, FIRST, SECOND);
+#else
+#error "no such call"
 #endif
     return answer;
 }
-#endif

@@ -1,8 +1,10 @@
-/* reader FILE: holds an implementation of the five calls to the known answers in FILE: in every record the number, the length or the rounds
- * and every byte of the room or the result blocks. The top of FILE says in which form it is.
+/* reader FILE: holds an implementation of the calls to the known answers in FILE: in every record the number, the length or the rounds and
+ * every byte of the room or the result blocks. The top of FILE says in which form it is.
  *
- * It tries auraski_seal, auraski_open, auraski_fork, auraski_unfork and auraski_rounds. With -DIMPLEMENTATION=NAME, and -include of a header
- * that declares them, it tries NAME_seal, NAME_open, NAME_fork, NAME_unfork and NAME_rounds, which have the same parameters.
+ * It tries the calls of auraski.h. With -DIMPLEMENTATION=NAME, and -include of a header that declares them, it tries NAME_seal, NAME_open,
+ * NAME_fork, NAME_unfork and NAME_rounds, which have the same parameters. If that header also says how many bytes NAME_prepare writes, as
+ * PREPARED_BYTES, it tries this and NAME_seal_prepared, NAME_open_prepared, NAME_fork_prepared and NAME_unfork_prepared too; else it passes
+ * over their records.
  *
  * SPDX-License-Identifier: 0BSD
  *
@@ -17,6 +19,7 @@
 #ifndef IMPLEMENTATION
 #define IMPLEMENTATION auraski
 #include "auraski.h"
+#define PREPARED_BYTES AURASKI_PREPARED
 #endif
 #define JOINED(prefix, name) prefix##_##name
 #define NAMED(prefix, name) JOINED(prefix, name)
@@ -28,6 +31,7 @@ enum { AROUND = 32, UNTOUCHED = 0xc3 };
 static uint32_t record;
 static unsigned long record_line;
 static unsigned long wrong_records;
+static unsigned long passed_over;
 static int record_is_wrong;
 /* Whether the record before is a seal that has to be answered with 0, and what it gave. */
 static int last_is_due;
@@ -105,41 +109,135 @@ static void keep_nothing(void)
     last_is_due = 0;
 }
 
-static void sealing_record(int opens)
+/* ---- prepared keys ---- */
+
+#ifdef PREPARED_BYTES
+enum { HAS_PREPARED = 1 };
+
+static uint8_t prepared_around[AROUND + PREPARED_BYTES + AROUND];
+static uint8_t *const prepared = prepared_around + AROUND;
+
+/* Prepares a key, also for the call behind it. What comes is zeros exactly if it is refused. */
+static uint32_t prepare(uint32_t cipher, const uint8_t *key, size_t key_size)
 {
-    uint32_t scheme = read_number("scheme");
-    struct bytes key = read_bytes("key");
-    struct bytes nonce = read_bytes("nonce");
-    struct bytes header = read_bytes("header");
-    struct bytes text = opens ? read_bytes_or_last("sealed", last_is_due ? &last : NULL) : read_bytes("body");
-    struct bytes before = read_bytes("room");
-    uint32_t due = read_number("number");
-    uint32_t due_length = read_number("length");
-    struct after after = read_after("after", before.size);
+    size_t zeros = 0;
+    memset(prepared_around, UNTOUCHED, sizeof prepared_around);
+    uint32_t number = CALL(prepare)(cipher, key, key_size, prepared);
+    judge_untouched(prepared_around);
+    judge_untouched(prepared + PREPARED_BYTES);
+    while (zeros < PREPARED_BYTES && prepared[zeros] == 0)
+        zeros++;
+    if ((number != 0) != (zeros == PREPARED_BYTES))
+        wrong("a prepared key has to be zeros where preparing is refused, and nowhere else");
+    return number;
+}
+#else
+enum { HAS_PREPARED = 0 };
+#endif
 
-    uint8_t *around = new_room(&before);
-    uint8_t *room = around + AROUND;
-    size_t length = SIZE_MAX;
-    uint32_t number = (opens ? CALL(open) : CALL(seal))(scheme, key.at, key.size, nonce.at, nonce.size, header.at, header.size,
-                                                        text.at, text.size, room, before.size, &length);
-    judge_number("the number", number, due);
-    judge_number("the length", length, due_length);
-    judge_room(around, before.size, &after);
-    if (!opens && due == 0)
-        keep_output(room, before.size, length);
-    else
-        keep_nothing();
-
-    free(around);
-    release(&key);
-    release(&nonce);
-    release(&header);
-    release(&text);
-    release(&before);
-    release(&after.bytes);
+static void pass_over(void)
+{
+    passed_over++;
+    keep_nothing();
 }
 
-static void read_block(const char *name, uint8_t block[16])
+static void prepare_record(void)
+{
+    uint32_t cipher = read_number("cipher");
+    struct bytes key = read_bytes("key");
+    uint32_t due = read_number("number");
+#ifdef PREPARED_BYTES
+    judge_number("the number", prepare(cipher, key.at, key.size), due);
+    keep_nothing();
+#else
+    (void)cipher, (void)due;
+    pass_over();
+#endif
+    release(&key);
+}
+
+/* ---- seal and open ---- */
+
+struct sealing {
+    int opens, is_prepared;
+    uint32_t scheme, prepared_for, due, due_length;
+    struct bytes key, nonce, header, text, before;
+    struct after after;
+};
+
+static void read_sealing(struct sealing *s)
+{
+    s->scheme = read_number("scheme");
+    s->prepared_for = s->is_prepared ? read_number("prepared") : 0;
+    s->key = read_bytes("key");
+    s->nonce = read_bytes("nonce");
+    s->header = read_bytes("header");
+    s->text = s->opens ? read_bytes_or_last("sealed", last_is_due ? &last : NULL) : read_bytes("body");
+    s->before = read_bytes("room");
+    s->due = read_number("number");
+    s->due_length = read_number("length");
+    s->after = read_after("after", s->before.size);
+}
+
+static void release_sealing(struct sealing *s)
+{
+    release(&s->key);
+    release(&s->nonce);
+    release(&s->header);
+    release(&s->text);
+    release(&s->before);
+    release(&s->after.bytes);
+}
+
+static uint32_t call_sealing(const struct sealing *s, uint8_t *room, size_t *length)
+{
+#ifdef PREPARED_BYTES
+    if (s->is_prepared) {
+        prepare(s->prepared_for, s->key.at, s->key.size);
+        return (s->opens ? CALL(open_prepared) : CALL(seal_prepared))(s->scheme, prepared, s->nonce.at, s->nonce.size, s->header.at,
+                                                                      s->header.size, s->text.at, s->text.size, room,
+                                                                      s->before.size, length);
+    }
+#endif
+    return (s->opens ? CALL(open) : CALL(seal))(s->scheme, s->key.at, s->key.size, s->nonce.at, s->nonce.size, s->header.at,
+                                                s->header.size, s->text.at, s->text.size, room, s->before.size, length);
+}
+
+static void try_sealing(const struct sealing *s)
+{
+    uint8_t *around = new_room(&s->before);
+    uint8_t *room = around + AROUND;
+    size_t length = SIZE_MAX;
+    judge_number("the number", call_sealing(s, room, &length), s->due);
+    judge_number("the length", length, s->due_length);
+    judge_room(around, s->before.size, &s->after);
+    if (!s->opens && s->due == 0)
+        keep_output(room, s->before.size, length);
+    else
+        keep_nothing();
+    free(around);
+}
+
+static void sealing_record(int opens, int is_prepared)
+{
+    struct sealing s = {.opens = opens, .is_prepared = is_prepared};
+    read_sealing(&s);
+    if (is_prepared && !HAS_PREPARED)
+        pass_over();
+    else
+        try_sealing(&s);
+    release_sealing(&s);
+}
+
+/* ---- fork and unfork ---- */
+
+struct block {
+    int back, is_prepared;
+    uint32_t cipher, prepared_for, from, want, due;
+    uint8_t key[16], tweak[16], block[16], due_first[16], due_second[16];
+};
+
+static void read_sixteen(const char *name, uint8_t block[16])
 {
     struct bytes bytes = read_bytes(name);
     if (bytes.size != 16)
@@ -148,28 +246,55 @@ static void read_block(const char *name, uint8_t block[16])
     release(&bytes);
 }
 
-static void block_record(int back)
+static void read_block(struct block *b)
 {
-    uint8_t key[16], tweak[16], block[16], due_first[16], due_second[16], first[16], second[16];
-    uint32_t cipher = read_number("cipher");
-    read_block("key", key);
-    read_block("tweak", tweak);
-    read_block("block", block);
-    uint32_t from = back ? read_number("from") : 0;
-    uint32_t want = read_number("want");
-    uint32_t due = read_number("number");
-    read_block(back ? "input" : "half0", due_first);
-    read_block(back ? "other" : "half1", due_second);
+    b->cipher = read_number("cipher");
+    b->prepared_for = b->is_prepared ? read_number("prepared") : 0;
+    read_sixteen("key", b->key);
+    read_sixteen("tweak", b->tweak);
+    read_sixteen("block", b->block);
+    b->from = b->back ? read_number("from") : 0;
+    b->want = read_number("want");
+    b->due = read_number("number");
+    read_sixteen(b->back ? "input" : "half0", b->due_first);
+    read_sixteen(b->back ? "other" : "half1", b->due_second);
+}
 
+static uint32_t call_block(const struct block *b, uint8_t first[16], uint8_t second[16])
+{
+#ifdef PREPARED_BYTES
+    if (b->is_prepared) {
+        prepare(b->prepared_for, b->key, sizeof b->key);
+        return b->back ? CALL(unfork_prepared)(b->cipher, prepared, b->tweak, b->block, b->from, b->want, first, second)
+                       : CALL(fork_prepared)(b->cipher, prepared, b->tweak, b->block, b->want, first, second);
+    }
+#endif
+    return b->back ? CALL(unfork)(b->cipher, b->key, b->tweak, b->block, b->from, b->want, first, second)
+                   : CALL(fork)(b->cipher, b->key, b->tweak, b->block, b->want, first, second);
+}
+
+static void try_block(const struct block *b)
+{
+    uint8_t first[16], second[16];
     memset(first, UNTOUCHED, sizeof first);
     memset(second, UNTOUCHED, sizeof second);
-    uint32_t number = back ? CALL(unfork)(cipher, key, tweak, block, from, want, first, second)
-                           : CALL(fork)(cipher, key, tweak, block, want, first, second);
-    judge_number("the number", number, due);
-    judge_bytes(back ? "the input" : "half 0", first, due_first, 16);
-    judge_bytes(back ? "the other half" : "half 1", second, due_second, 16);
+    judge_number("the number", call_block(b, first, second), b->due);
+    judge_bytes(b->back ? "the input" : "half 0", first, b->due_first, 16);
+    judge_bytes(b->back ? "the other half" : "half 1", second, b->due_second, 16);
     keep_nothing();
 }
+
+static void block_record(int back, int is_prepared)
+{
+    struct block b = {.back = back, .is_prepared = is_prepared};
+    read_block(&b);
+    if (is_prepared && !HAS_PREPARED)
+        pass_over();
+    else
+        try_block(&b);
+}
+
+/* ---- rounds ---- */
 
 static void rounds_record(void)
 {
@@ -186,21 +311,34 @@ static void rounds_record(void)
     keep_nothing();
 }
 
+/* Whether the value is this call, by key or, if *is_prepared is so afterwards, with a prepared key. */
+static int is_call(const char *value, const char *name, int *is_prepared)
+{
+    size_t size = strlen(name);
+    if (strncmp(value, name, size) != 0)
+        return 0;
+    *is_prepared = strcmp(value + size, "_prepared") == 0;
+    return *is_prepared || value[size] == '\0';
+}
+
 static void any_record(void)
 {
     const char *call = read_value("call");
-    if (strcmp(call, "seal") == 0)
-        sealing_record(0);
-    else if (strcmp(call, "open") == 0)
-        sealing_record(1);
-    else if (strcmp(call, "fork") == 0)
-        block_record(0);
-    else if (strcmp(call, "unfork") == 0)
-        block_record(1);
+    int is_prepared;
+    if (is_call(call, "seal", &is_prepared))
+        sealing_record(0, is_prepared);
+    else if (is_call(call, "open", &is_prepared))
+        sealing_record(1, is_prepared);
+    else if (is_call(call, "fork", &is_prepared))
+        block_record(0, is_prepared);
+    else if (is_call(call, "unfork", &is_prepared))
+        block_record(1, is_prepared);
     else if (strcmp(call, "rounds") == 0)
         rounds_record();
+    else if (strcmp(call, "prepare") == 0)
+        prepare_record();
     else
-        damaged("a call is seal, open, fork, unfork or rounds");
+        damaged("a call is seal, open, fork or unfork, any of them with _prepared behind it, rounds or prepare");
 }
 
 int main(int count, char **arguments)
@@ -221,6 +359,9 @@ int main(int count, char **arguments)
         printf("reader: %lu of %" PRIu32 " records do not hold\n", wrong_records, record);
         return 1;
     }
-    printf("reader: all %" PRIu32 " records hold\n", record);
+    printf("reader: all %" PRIu32 " records hold", record);
+    if (passed_over > 0)
+        printf(", but for %lu of prepared keys, which were passed over", passed_over);
+    printf("\n");
     return 0;
 }

@@ -1,5 +1,5 @@
-/* secrets [--answers | --leaks]: every call with its secrets marked, under memcheck (tools/secrets). With --answers an open may be reported
- * for its answer. With --leaks no call is made, but a read and a branch on purpose, which memcheck has to report. */
+/* secrets [--answers | --leaks]: every call with its secrets marked, under memcheck (tools/secrets). With --answers a call may be reported for
+ * its answer (tally.h). With --leaks no call is made, but a read and a branch on purpose, which memcheck has to report. */
 #include "cases.h"
 #include "secret.h"
 #include "tally.h"

@@ -1,6 +1,7 @@
 /* Seals and opens. Of an open the run is public, but without the key nobody knows what it opens to. */
 #include "auraski.h"
 #include "cases.h"
+#include "prepared.h"
 #include "secret.h"
 #include "tally.h"
 
@@ -10,6 +11,7 @@
 enum { LIMIT = AURASKI_SAEF_128_256_LIMIT, BLOCK = AURASKI_SAEF_128_256_BLOCK };
 
 static uint8_t key[AURASKI_KEY_BYTES], nonce[BLOCK], header[LIMIT + 1], body[LIMIT + 1], run[LIMIT + 1 + BLOCK], room[LIMIT + 1 + BLOCK];
+static prepared_keys prepared;
 
 struct scheme {
     uint32_t number, cipher;
@@ -23,45 +25,66 @@ static const struct scheme schemes[3] = {
     {AURASKI_SAEF_128_256, AURASKI_128_256, AURASKI_SAEF_128_256_BLOCK, AURASKI_SAEF_128_256_NONCE, AURASKI_SAEF_128_256_LIMIT, {0x0d}},
 };
 
-/* The scheme's number, and the lengths that a call is given. The text is the body or the run. */
+/* By key and with a prepared key. */
+static const struct way {
+    enum entry seal, open;
+} ways[2] = {{SEAL, OPEN}, {SEAL_PREPARED, OPEN_PREPARED}};
+
+/* The scheme's number, the cipher for which a key was prepared, and the lengths that a call is given. The text is the body or the run. */
 struct call {
-    uint32_t scheme;
+    uint32_t scheme, cipher;
     size_t key, nonce, header, text, room;
 };
+
+static int seals(enum entry entry)
+{
+    return entry == SEAL || entry == SEAL_PREPARED;
+}
+
+static uint32_t answer(enum entry entry, const struct call *c, size_t *length)
+{
+    const uint8_t *text = seals(entry) ? body : run;
+    if (entry == SEAL || entry == OPEN) {
+        return (entry == SEAL ? auraski_seal : auraski_open)(c->scheme, key, c->key, nonce, c->nonce, header, c->header, text, c->text, room,
+                                                             c->room, length);
+    }
+    return (entry == SEAL_PREPARED ? auraski_seal_prepared : auraski_open_prepared)(c->scheme, prepared[c->cipher], nonce, c->nonce, header,
+                                                                                    c->header, text, c->text, room, c->room, length);
+}
 
 /* Seals or opens, and looks at what came. */
 static void make(enum entry entry, const struct call *c, uint32_t due)
 {
-    const uint8_t *text = entry == SEAL ? body : run;
     size_t length = 1, output = due == AURASKI_DONE ? c->room : 0;
     memset(room, 0xee, c->room);
     make_secret(key, c->key);
-    make_secret(body, entry == SEAL ? c->text : 0);
+    make_secret(prepared, sizeof prepared);
+    make_secret(body, seals(entry) ? c->text : 0);
     tally_begin();
-    uint32_t number = (entry == SEAL ? auraski_seal : auraski_open)(c->scheme, key, c->key, nonce, c->nonce, header, c->header, text, c->text,
-                                                                    room, c->room, &length);
+    uint32_t number = answer(entry, c, &length);
     int silent = tally_end(entry, c->scheme, due);
-    hold(judges(entry, due) || (none_secret(&number, sizeof number) && none_secret(&length, sizeof length)),
+    hold(judges_key(entry, due) || judges_run(entry, due) || (none_secret(&number, sizeof number) && none_secret(&length, sizeof length)),
          "number or length depends on a secret");
     hold(!silent || all_secret(room, output), "a byte of the output depends on no secret");
     make_public(key, c->key);
-    make_public(body, entry == SEAL ? c->text : 0);
+    make_public(prepared, sizeof prepared);
+    make_public(body, seals(entry) ? c->text : 0);
     make_public(&number, sizeof number);
     make_public(&length, sizeof length);
     make_public(room, c->room);
     hold(number == due && length == output, "another number or length");
 }
 
-static void open_authentic(const struct call *c)
+static void open_authentic(enum entry entry, const struct call *c)
 {
-    make(OPEN, c, AURASKI_DONE);
+    make(entry, c, AURASKI_DONE);
     hold(memcmp(room, body, c->room) == 0, "not the body that was sealed");
 }
 
-static void open_forged(const struct call *c)
+static void open_forged(enum entry entry, const struct call *c)
 {
     size_t zeros = 0;
-    make(OPEN, c, AURASKI_FORGED);
+    make(entry, c, AURASKI_FORGED);
     for (size_t i = 0; i < c->room; i++) {
         zeros += room[i] == 0;
     }
@@ -69,19 +92,19 @@ static void open_forged(const struct call *c)
 }
 
 /* A record sealed, opened, and refused: for the first byte of its run, and for the first and the last one of its tag. */
-static void record_case(const struct scheme *s, size_t header_len, size_t body_len)
+static void record_case(const struct way *way, const struct scheme *s, size_t header_len, size_t body_len)
 {
     const size_t run_len = body_len + s->block, tag_len = body_len == 0 ? s->block : (body_len - 1) % s->block + 1;
     const size_t places[] = {0, run_len - tag_len, run_len - 1};
-    const struct call sealing = {s->number, sizeof key, s->nonce, header_len, body_len, run_len};
-    const struct call opening = {s->number, sizeof key, s->nonce, header_len, run_len, body_len};
-    make(SEAL, &sealing, AURASKI_DONE);
+    const struct call sealing = {s->number, s->cipher, sizeof key, s->nonce, header_len, body_len, run_len};
+    const struct call opening = {s->number, s->cipher, sizeof key, s->nonce, header_len, run_len, body_len};
+    make(way->seal, &sealing, AURASKI_DONE);
     memcpy(run, room, run_len);
-    open_authentic(&opening);
+    open_authentic(way->open, &opening);
     for (size_t i = 0; i < sizeof places / sizeof places[0]; i++) {
         if (i == 0 || places[i] != places[i - 1]) {
             run[places[i]] ^= 0x10;
-            open_forged(&opening);
+            open_forged(way->open, &opening);
             run[places[i]] ^= 0x10;
         }
     }
@@ -105,59 +128,75 @@ static void run_by_hand(const struct scheme *s, size_t body_len, size_t place, u
 }
 
 /* By hand as by a seal; then refused for the first byte of the padding and for the last one. */
-static void padding_case(const struct scheme *s, size_t body_len)
+static void padding_case(const struct way *way, const struct scheme *s, size_t body_len)
 {
-    const struct call sealing = {s->number, sizeof key, s->nonce, 0, body_len, body_len + s->block};
-    const struct call opening = {s->number, sizeof key, s->nonce, 0, body_len + s->block, body_len};
-    make(SEAL, &sealing, AURASKI_DONE);
+    const struct call sealing = {s->number, s->cipher, sizeof key, s->nonce, 0, body_len, body_len + s->block};
+    const struct call opening = {s->number, s->cipher, sizeof key, s->nonce, 0, body_len + s->block, body_len};
+    make(way->seal, &sealing, AURASKI_DONE);
     run_by_hand(s, body_len, 0, 0);
     hold(memcmp(run, room, sealing.room) == 0, "not the run that is made by hand");
     run_by_hand(s, body_len, body_len, 0x80);
-    open_forged(&opening);
+    open_forged(way->open, &opening);
     run_by_hand(s, body_len, s->block - 1, 0x01);
-    open_forged(&opening);
+    open_forged(way->open, &opening);
 }
 
-/* ---- refusals by lengths ---- */
+/* ---- refusals by lengths, and for a prepared key ---- */
 
 /* Of a call that would be done but for one argument. */
 static void refused_cases(enum entry entry, const struct scheme *s, size_t text_len, size_t room_len)
 {
-    const struct call done = {s->number, sizeof key, s->nonce, BLOCK, text_len, room_len};
-    struct call unknown = done, short_key = done, long_nonce = done, long_header = done, long_text = done, little_room = done;
+    const struct call done = {s->number, s->cipher, sizeof key, s->nonce, BLOCK, text_len, room_len};
+    struct call unknown = done, wrong_key = done, long_nonce = done, long_header = done, long_text = done, little_room = done;
     unknown.scheme = 0;
-    short_key.key--;
+    wrong_key.key--;
+    wrong_key.cipher = 0;
     long_nonce.nonce++;
     long_header.header = s->limit + 1;
     long_text.text += s->limit;
     little_room.room--;
     make(entry, &unknown, AURASKI_UNKNOWN);
-    make(entry, &short_key, AURASKI_WRONG_KEY_LENGTH);
+    make(entry, &wrong_key, AURASKI_WRONG_KEY_LENGTH);
     make(entry, &long_nonce, AURASKI_WRONG_NONCE_LENGTH);
     make(entry, &long_header, AURASKI_HEADER_TOO_LONG);
     make(entry, &long_text, AURASKI_BODY_TOO_LONG);
     make(entry, &little_room, AURASKI_ROOM);
 }
 
-static void short_case(const struct scheme *s)
+static void short_case(enum entry entry, const struct scheme *s)
 {
-    const struct call short_run = {s->number, sizeof key, s->nonce, BLOCK, s->block - 1, BLOCK};
-    make(OPEN, &short_run, AURASKI_TOO_SHORT);
+    const struct call short_run = {s->number, s->cipher, sizeof key, s->nonce, BLOCK, s->block - 1, BLOCK};
+    make(entry, &short_run, AURASKI_TOO_SHORT);
 }
 
-static void scheme_cases(const struct scheme *s)
+/* A prepared key that is not admitted: another cipher's; one of which the first byte, one between or the last one is another. */
+static void not_admitted_cases(enum entry entry, const struct scheme *s)
+{
+    static const size_t places[] = {0, 1, AURASKI_PREPARED / 2, AURASKI_PREPARED - 1};
+    const struct call call = {s->number, s->cipher, sizeof key, s->nonce, BLOCK, BLOCK, 2 * BLOCK};
+    struct call other = call;
+    other.cipher = AURASKI_64_192 + AURASKI_128_256 - s->cipher;
+    make(entry, &other, AURASKI_WRONG_KEY_LENGTH);
+    for (size_t i = 0; i < sizeof places / sizeof places[0]; i++) {
+        prepared[s->cipher][places[i]] ^= 0x01;
+        make(entry, &call, AURASKI_WRONG_KEY_LENGTH);
+        prepared[s->cipher][places[i]] ^= 0x01;
+    }
+}
+
+static void scheme_cases(const struct way *way, const struct scheme *s)
 {
     const size_t n = s->block, headers[] = {0, n - 1, n, 2 * n + 1}, bodies[] = {0, 1, n - 1, n, n + 1, 2 * n, 3 * n + 5};
     for (size_t i = 0; i < sizeof headers / sizeof headers[0]; i++) {
         for (size_t j = 0; j < sizeof bodies / sizeof bodies[0]; j++) {
-            record_case(s, headers[i], bodies[j]);
+            record_case(way, s, headers[i], bodies[j]);
         }
     }
-    padding_case(s, 1);
-    padding_case(s, n - 1);
-    refused_cases(SEAL, s, 1, 1 + n);
-    refused_cases(OPEN, s, 1 + n, 1);
-    short_case(s);
+    padding_case(way, s, 1);
+    padding_case(way, s, n - 1);
+    refused_cases(way->seal, s, 1, 1 + n);
+    refused_cases(way->open, s, 1 + n, 1);
+    short_case(way->open, s);
 }
 
 void record_cases(void)
@@ -170,7 +209,11 @@ void record_cases(void)
         header[i] = (uint8_t)(0x35 * i + 0xc2);
         body[i] = (uint8_t)(0x67 * i + 0x9e);
     }
+    prepare(key, prepared);
     for (size_t i = 0; i < sizeof schemes / sizeof schemes[0]; i++) {
-        scheme_cases(&schemes[i]);
+        scheme_cases(&ways[0], &schemes[i]);
+        scheme_cases(&ways[1], &schemes[i]);
+        not_admitted_cases(SEAL_PREPARED, &schemes[i]);
+        not_admitted_cases(OPEN_PREPARED, &schemes[i]);
     }
 }

@@ -4,12 +4,15 @@
 
 #include <stdint.h>
 
-enum entry { SEAL, OPEN, FORK, UNFORK, ENTRIES };
+/* Those that are given a scheme come first. */
+enum entry { SEAL, OPEN, SEAL_PREPARED, OPEN_PREPARED, FORK, UNFORK, FORK_PREPARED, UNFORK_PREPARED, PREPARE, ENTRIES };
 
-/* Whether such a call judges a run. The answer of every other one goes by lengths and numbers alone. */
-int judges(enum entry entry, uint32_t due);
+/* What a call judges of its secrets before it answers so: whether a prepared key is admitted; whether a run is authentic. All else that an
+ * answer goes by is lengths and numbers. */
+int judges_key(enum entry entry, uint32_t due);
+int judges_run(enum entry entry, uint32_t due);
 
-/* From now on a call that judges a run may be reported once: for its answer. */
+/* From now on a call may be reported once for each of the two that it judges. */
 void tally_allow_answers(void);
 
 /* A call begins: what memcheck reports until its end is its own. */
@@ -23,7 +26,8 @@ int tally_end(enum entry entry, uint32_t number, uint32_t due);
 void hold(int so, const char *what);
 
 /* 0 if all was as it must be and memcheck reported no call, else 1. Prints what was wrong; or how many seals, opens of authentic runs, opens of
- * forged ones, forks, unforks and refused calls there were, and how many opens were reported for their answer. */
+ * forged ones, forks, unforks, preparations and refused calls there were, how many of all these had a prepared key, and how many were
+ * reported for judging a run, and for judging a prepared key. */
 int tally_told(void);
 
 #endif

@@ -39,7 +39,7 @@ __asm__(".text\n"
         "    ret\n"
         ".size on_stack, . - on_stack\n");
 
-void prepare(size_t bytes)
+void make_ground(size_t bytes)
 {
     enum { PAGE = 4096 };
     size = (bytes + PAGE - 1) / PAGE * PAGE;

@@ -14,7 +14,7 @@ typedef struct {
 } Call;
 
 /* A stack of so many bytes, above a page that nobody may touch. */
-void prepare(size_t bytes);
+void make_ground(size_t bytes);
 
 /* Makes the call on the last so many bytes of the stack, or stops the program if there are not so many. */
 uint32_t make(const Call *call, size_t bytes);

@@ -1,4 +1,6 @@
 // The entry points for C: plain numbers and byte runs. The header include/auraski.h tells a C programmer what each call means.
+pub mod with_prepared;
+
 ghost use mathlib.Core.Path.{_≡_};
 ghost use Rattle.forkskinny.specs.Calls.{forkOf, unforkOf};
 ghost use Rattle.sealing.specs.Budget.{budgetOf};
@@ -18,7 +20,7 @@ pub extern "C" fn auraski_fork(
 ) -> u32
     ensures { λ r. ⌜ blocks r (now (half0 .exit)) (now (half1 .exit)) ≡ halvesIn (forkOf cipher (now (key .entry)) (now (tweak .entry)) (now (block .entry)) want) ⌝ }
 {
-    let f = forkskinny::fork(cipher, *key, *tweak, *block, want);
+    let f = forkskinny::fork_by_key(cipher, *key, *tweak, *block, want);
     let a = f.half0;
     let b = f.half1;
     *half0 = a;
@@ -40,7 +42,7 @@ pub extern "C" fn auraski_unfork(
 ) -> u32
     ensures { λ r. ⌜ blocks r (now (input .exit)) (now (other .exit)) ≡ backIn (unforkOf cipher (now (key .entry)) (now (tweak .entry)) (now (block .entry)) from want) ⌝ }
 {
-    let f = forkskinny::unfork(cipher, *key, *tweak, *block, from, want);
+    let f = forkskinny::unfork_by_key(cipher, *key, *tweak, *block, from, want);
     let a = f.input;
     let b = f.other;
     *input = a;
@@ -61,7 +63,7 @@ pub extern "C" fn auraski_seal(
 ) -> u32
     ensures { λ r. ⌜ answered r (now (length .exit)) (now (room .exit)) ≡ answerIn (sealOf scheme (now (key .entry)) (now (nonce .entry)) (now (header .entry)) (now (body .entry)) (now (room .entry))) ⌝ }
 {
-    let a = sealing::seal(scheme, key, nonce, header, body, room);
+    let a = sealing::seal_by_key(scheme, key, nonce, header, body, room);
     *length = a.length;
     a.number
 }
@@ -79,7 +81,7 @@ pub extern "C" fn auraski_open(
 ) -> u32
     ensures { λ r. ⌜ answered r (now (length .exit)) (now (room .exit)) ≡ answerIn (openOf scheme (now (key .entry)) (now (nonce .entry)) (now (header .entry)) (now (sealed .entry)) (now (room .entry))) ⌝ }
 {
-    let b = sealing::open(scheme, key, nonce, header, sealed, room);
+    let b = sealing::open_by_key(scheme, key, nonce, header, sealed, room);
     *length = b.length;
     b.number
 }

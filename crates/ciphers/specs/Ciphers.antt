@@ -1,7 +1,9 @@
 -- The ciphers: their sizes, blocks and keys as cells, and the branch constant. "01" is the desk's document 01, "ForkSkinny, the
 -- cells"; "001" the Forkcipher paper, and "enc" and "dec" the lines of its figure 4. Assumes nothing.
 use Prim.Native.Nat.{ℕ, zero, suc, _+_, _*_, _/_, _%_}
+use mathlib.Core.Bool.{cond}
 use mathlib.Core.List.{List, [], _∷_, _++_}
+use lib.Dec.{eqb}
 use lib.ListN.{getD, take, replicate}
 use lib.Bits.{bitXor}
 use Rattle.cells.specs.Cells.{Width, Nibble, Byte, Words, Two, Three, step2}
@@ -34,6 +36,15 @@ branchOf N128T256 = 27
 abbrev pub blockOf : Cipher → ℕ
 blockOf N64T192 = 8
 blockOf N128T256 = 16
+
+-- the number of a cipher, as the calls have it
+abbrev pub numberOf : Cipher → ℕ
+numberOf N64T192 = 1
+numberOf N128T256 = 2
+
+-- the answer under the cipher that a number names, or the refusal
+abbrev pub underCipher : {A : Type 0} → ℕ → (Cipher → A) → A → A
+underCipher cipher f refused = cond (eqb cipher 1) (f N64T192) (cond (eqb cipher 2) (f N128T256) refused)
 
 -- ---- cells and bytes
 
@@ -85,6 +96,10 @@ abbrev pub keyCells : Cipher → List ℕ → List ℕ → List ℕ
 keyCells N64T192 key tweak =
     sixteen (cellOf Nibble key) ++ sixteen (λ k. cellOf Nibble key (16 + k)) ++ sixteen (cellOf Nibble tweak)
 keyCells N128T256 key tweak = sixteen (cellOf Byte key) ++ sixteen (cellOf Byte tweak) ++ sixteen (λ k. 0)
+
+-- the tweak's word of it, the last one
+unfoldable pub tweakCells : Cipher → List ℕ → List ℕ
+tweakCells c tweak = sixteen (cellOf (widthOf c) tweak)
 
 unfoldable pub tk : Cipher → List ℕ → List ℕ → Tweakey
 tk c key tweak = record { cells = keyCells c key tweak; at = 0 }

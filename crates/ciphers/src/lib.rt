@@ -1,16 +1,29 @@
 // The ciphers: their sizes, blocks and keys as cells, the branch constant, and what a block call makes once: the round keys.
 ghost use mathlib.Core.Path.{_≡_};
 ghost use Prim.Native.Nat.{_≤_};
-ghost use Rattle.cells.specs.Cells.{Nibble, Byte, LowCells, Bytes};
+ghost use lib.ListN.{length};
+ghost use Rattle.cells.specs.Cells.{Nibble, Byte, Bytes};
 ghost use Rattle.constants.specs.Constants.{Room};
+ghost use Rattle.schedule.specs.declared.Tweakey.{Tweakey};
 ghost use Rattle.schedule.specs.Schedule.{RoundKeys};
-ghost use Rattle.ciphers.specs.Ciphers.{widthOf, wordsOf, initOf, branchOf, blockOf, loaded, load, unloaded, unload, keyCells, tk, xored, branchConstant, addBranch};
+ghost use Rattle.schedule.specs.Share.{Parts, LastChanged};
+ghost use Rattle.ciphers.specs.Ciphers.{numberOf, widthOf, wordsOf, initOf, branchOf, blockOf, loaded, load, unloaded, unload, cellOf, sixteen, keyCells, tweakCells, tk, xored, branchConstant, addBranch};
 use schedule::Tweakey;
 
 // By the bits of the block and of the tweakey, as the paper names its ciphers: 64-192 and 128-256.
 pub enum Cipher {
     N64T192,
     N128T256,
+}
+
+// The number that names a cipher in a call.
+pub fn number_of(c: Cipher) -> u32
+    ensures { λ r. ⌜ r ≡ numberOf c ⌝ }
+{
+    match c {
+        Cipher::N64T192 => 1,
+        Cipher::N128T256 => 2,
+    }
 }
 
 // Bytes of a block, and of a tweak.
@@ -259,6 +272,62 @@ pub fn load_key(c: Cipher, key: [u8; 16], tweak: [u8; 16]) -> Tweakey
     }
 }
 
+fn tweak_nibbles(tweak: [u8; 16]) -> [u8; 16]
+    ensures { λ r. ⌜ r ≡ sixteen (cellOf Nibble tweak) ⌝ }
+{
+    [
+        tweak[0] / 16,
+        tweak[0] % 16,
+        tweak[1] / 16,
+        tweak[1] % 16,
+        tweak[2] / 16,
+        tweak[2] % 16,
+        tweak[3] / 16,
+        tweak[3] % 16,
+        tweak[4] / 16,
+        tweak[4] % 16,
+        tweak[5] / 16,
+        tweak[5] % 16,
+        tweak[6] / 16,
+        tweak[6] % 16,
+        tweak[7] / 16,
+        tweak[7] % 16,
+    ]
+}
+
+fn tweak_bytes(tweak: [u8; 16]) -> [u8; 16]
+    ensures { λ r. ⌜ r ≡ sixteen (cellOf Byte tweak) ⌝ }
+{
+    [
+        tweak[0],
+        tweak[1],
+        tweak[2],
+        tweak[3],
+        tweak[4],
+        tweak[5],
+        tweak[6],
+        tweak[7],
+        tweak[8],
+        tweak[9],
+        tweak[10],
+        tweak[11],
+        tweak[12],
+        tweak[13],
+        tweak[14],
+        tweak[15],
+    ]
+}
+
+// The word of a tweak.
+pub fn load_tweak(c: Cipher, tweak: [u8; 16]) -> [u8; 16]
+    ensures { λ r. ⌜ r ≡ tweakCells c tweak ⌝ }
+{
+    match c {
+        Cipher::N64T192 => tweak_nibbles(tweak),
+        Cipher::N128T256 => tweak_bytes(tweak),
+    }
+}
+
 // ---- the branch constant
 
 fn xor_states(s: [[u8; 4]; 4], t: [[u8; 4]; 4]) -> [[u8; 4]; 4]
@@ -329,13 +398,24 @@ pub fn bytes_known(s: &[u8])
     nothing();
 }
 
-// The keys of the first m rounds, laid on the constants.
-pub fn lay_keys(c: Cipher, keys: &mut [[u8; 8]; 97], m: usize, t: Tweakey)
-    requires { ⌜ (m ≤ 87) × (t .at ≡ 0) × LowCells (widthOf c) (t .cells) × Room (now keys) ⌝ }
-    ensures { λ r. ⌜ RoundKeys (widthOf c) (wordsOf c) m t (now (keys .exit)) ⌝ }
+// The keys of the first m rounds, laid on the constants, from a key's share and the cells of a tweak.
+pub fn lay_keys(c: Cipher, keys: &mut [[u8; 8]; 97], m: usize, share: &[u8; 784], tweak: [u8; 16])
+    requires { ⌜ (m ≤ 87) × Room (now keys) ⌝ }
+    ensures { λ r. ⌜ (length (now (keys .exit)) ≡ 97) × ((t : Tweakey) → Parts (widthOf c) (wordsOf c) t (now (share .entry)) tweak → RoundKeys (widthOf c) (wordsOf c) m t (now (keys .exit))) ⌝ }
 {
     match c {
-        Cipher::N64T192 => schedule::lay_keys_64_192(keys, m, t),
-        Cipher::N128T256 => schedule::lay_keys_128_256(keys, m, t),
+        Cipher::N64T192 => schedule::lay_keys_64_192(keys, m, share, tweak),
+        Cipher::N128T256 => schedule::lay_keys_128_256(keys, m, share, tweak),
+    }
+}
+
+// The keys of the first m rounds, for a tweak whose last byte changed by d.
+pub fn change_last(c: Cipher, keys: &mut [[u8; 8]; 97], m: usize, d: u8)
+    requires { ⌜ (m ≤ 87) × (length (now keys) ≡ 97) ⌝ }
+    ensures { λ r. ⌜ (length (now (keys .exit)) ≡ 97) × ((t u : Tweakey) → LastChanged (widthOf c) (wordsOf c) d t u → RoundKeys (widthOf c) (wordsOf c) m t (now (keys .entry)) → RoundKeys (widthOf c) (wordsOf c) m u (now (keys .exit))) ⌝ }
+{
+    match c {
+        Cipher::N64T192 => schedule::change_last_64_192(keys, m, d),
+        Cipher::N128T256 => schedule::change_last_128_256(keys, m, d),
     }
 }

@@ -10,13 +10,13 @@ use lib.ListN.{take}
 use borrow.Author.Tests.{lt-ltb, le-ltb, ne-eqb}
 use Rattle.ciphers.specs.declared.Cipher.{Cipher}
 use Rattle.ciphers.specs.declared.Cipher.the-variants.{N64T192, N128T256}
-use Rattle.ciphers.specs.Ciphers.{widthOf, blockOf, counted}
+use Rattle.ciphers.specs.Ciphers.{widthOf, blockOf, counted, numberOf}
 use Rattle.cells.specs.Cells.{Width, Nibble, Byte, Bytes, Block}
 use Rattle.cells.proofs.Choice.{either}
 use Rattle.forkskinny.specs.declared.Forked.{Forked}
 use Rattle.forkskinny.specs.declared.Unforked.{Unforked}
 use Rattle.forkskinny.specs.ForkSkinny.{half, input, other, otherOf}
-use Rattle.forkskinny.specs.Calls.{zeros, given, wants, numberOf, forkRounds, forkRefused, forkBy, forkOf, unforkRounds, unforkRefused, unforkBy, unforkOf}
+use Rattle.forkskinny.specs.Calls.{zeros, given, wants, forkRounds, forkRefused, forkBy, forkOf, unforkRounds, unforkRefused, unforkBy, unforkOf}
 use Rattle.forkskinny.proofs.Forkcipher.{input-half, other-half, half-input}
 use Rattle.forkskinny.proofs.Forkcipher.{half-behind, input-behind, other-behind, half-front, input-front, other-front}
 

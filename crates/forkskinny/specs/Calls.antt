@@ -7,8 +7,9 @@ use mathlib.Core.List.{List}
 use lib.Dec.{eqb, ltb}
 use lib.ListN.{replicate}
 use Rattle.ciphers.specs.declared.Cipher.{Cipher}
-use Rattle.ciphers.specs.declared.Cipher.the-variants.{N64T192, N128T256}
-use Rattle.ciphers.specs.Ciphers.{initOf, branchOf}
+use Rattle.ciphers.specs.Ciphers.{initOf, branchOf, underCipher}
+use Rattle.prepared.specs.declared.Prepared.{Prepared}
+use Rattle.prepared.specs.Prepared.{keyIn, admitted}
 use Rattle.forkskinny.specs.declared.Forked.{Forked}
 use Rattle.forkskinny.specs.declared.Unforked.{Unforked}
 use Rattle.forkskinny.specs.ForkSkinny.{half, input, other}
@@ -24,15 +25,6 @@ given asked b = cond asked b zeros
 unfoldable pub wants : ℕ → ℕ → Bool
 wants k want = cond (eqb want k) true (eqb want 2)
 
--- the number of a cipher
-abbrev pub numberOf : Cipher → ℕ
-numberOf N64T192 = 1
-numberOf N128T256 = 2
-
--- the answer under the cipher that a number names, or the refusal
-abbrev pub underCipher : {A : Type 0} → ℕ → (Cipher → A) → A → A
-underCipher cipher f refused = cond (eqb cipher 1) (f N64T192) (cond (eqb cipher 2) (f N128T256) refused)
-
 -- the rounds of a call: n always, a for its first result and b for its second, where they are asked for
 abbrev pub roundsIf : Bool → ℕ → ℕ
 roundsIf asked n = cond asked n 0
@@ -46,8 +38,11 @@ roundsFor n a b want = n + roundsIf (wants 0 want) a + roundsIf (wants 1 want) b
 unfoldable pub forkRounds : Cipher → (want : ℕ) → ℕ
 forkRounds c want = roundsFor (initOf c) (branchOf c) (branchOf c) want
 
+abbrev pub forkRefusedWith : ℕ → Forked
+forkRefusedWith number = record { number = number; half0 = zeros; half1 = zeros; rounds = 0 }
+
 abbrev pub forkRefused : Forked
-forkRefused = record { number = 1; half0 = zeros; half1 = zeros; rounds = 0 }
+forkRefused = forkRefusedWith 1
 
 abbrev pub forkBy : Cipher → List ℕ → List ℕ → List ℕ → ℕ → Forked
 forkBy c key tweak block want = record {
@@ -61,6 +56,14 @@ unfoldable pub forkOf : ℕ → List ℕ → List ℕ → List ℕ → ℕ → F
 forkOf cipher key tweak block want =
     cond (ltb 2 want) forkRefused (underCipher cipher (λ c. forkBy c key tweak block want) forkRefused)
 
+-- the same with a prepared key (C-16): 2, after 1, for a record that is not admitted under the cipher
+abbrev pub forkUnder : Cipher → Prepared → List ℕ → List ℕ → ℕ → Forked
+forkUnder c r tweak block want = cond (admitted c r) (forkBy c (keyIn c (r .share)) tweak block want) (forkRefusedWith 2)
+
+unfoldable pub forkWith : ℕ → Prepared → List ℕ → List ℕ → ℕ → Forked
+forkWith cipher r tweak block want =
+    cond (ltb 2 want) forkRefused (underCipher cipher (λ c. forkUnder c r tweak block want) forkRefused)
+
 -- ---- back
 
 -- those of the branch whose half is given; those before the fork, where the input is asked for; those of the other branch, where its half
@@ -68,8 +71,11 @@ forkOf cipher key tweak block want =
 unfoldable pub unforkRounds : Cipher → (want : ℕ) → ℕ
 unforkRounds c want = roundsFor (branchOf c) (initOf c) (branchOf c) want
 
+abbrev pub unforkRefusedWith : ℕ → Unforked
+unforkRefusedWith number = record { number = number; input = zeros; other = zeros; rounds = 0 }
+
 abbrev pub unforkRefused : Unforked
-unforkRefused = record { number = 1; input = zeros; other = zeros; rounds = 0 }
+unforkRefused = unforkRefusedWith 1
 
 abbrev pub unforkBy : Cipher → List ℕ → List ℕ → List ℕ → ℕ → ℕ → Unforked
 unforkBy c key tweak block from want = record {
@@ -83,3 +89,11 @@ unfoldable pub unforkOf : ℕ → List ℕ → List ℕ → List ℕ → ℕ →
 unforkOf cipher key tweak block from want =
     cond (ltb 1 from) unforkRefused
     (cond (ltb 2 want) unforkRefused (underCipher cipher (λ c. unforkBy c key tweak block from want) unforkRefused))
+
+abbrev pub unforkUnder : Cipher → Prepared → List ℕ → List ℕ → ℕ → ℕ → Unforked
+unforkUnder c r tweak block from want = cond (admitted c r) (unforkBy c (keyIn c (r .share)) tweak block from want) (unforkRefusedWith 2)
+
+unfoldable pub unforkWith : ℕ → Prepared → List ℕ → List ℕ → ℕ → ℕ → Unforked
+unforkWith cipher r tweak block from want =
+    cond (ltb 1 from) unforkRefused
+    (cond (ltb 2 want) unforkRefused (underCipher cipher (λ c. unforkUnder c r tweak block from want) unforkRefused))

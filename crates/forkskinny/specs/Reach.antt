@@ -5,7 +5,8 @@ use Rattle.ciphers.specs.declared.Cipher.{Cipher}
 use Rattle.ciphers.specs.Ciphers.{branchOf}
 use Rattle.forkskinny.specs.declared.Branch.{Branch}
 use Rattle.forkskinny.specs.declared.Branch.the-variants.{Near, Far}
-use Rattle.forkskinny.specs.ForkSkinny.{sideOf, startOf}
+use Rattle.forkskinny.specs.ForkSkinny.{sideOf, startOf, otherOf}
+use Rattle.forkskinny.specs.Calls.{wants}
 
 abbrev pub isFar : Branch → Bool
 isFar Near = false
@@ -23,3 +24,10 @@ takesFar a h b k = cond (farIf a h) true (farIf b k)
 abbrev pub reachOf : Cipher → Bool → ℕ
 reachOf c true = startOf c Far + branchOf c
 reachOf c false = startOf c Near + branchOf c
+
+-- forward, and back from a half
+abbrev pub forkReach : Cipher → (want : ℕ) → ℕ
+forkReach c want = reachOf c (takesFar (wants 0 want) 0 (wants 1 want) 1)
+
+abbrev pub unforkReach : Cipher → (from want : ℕ) → ℕ
+unforkReach c from want = reachOf c (takesFar true from (wants 1 want) (otherOf from))

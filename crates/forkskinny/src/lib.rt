@@ -3,19 +3,24 @@ pub mod by_cipher;
 
 ghost use mathlib.Core.Path.{_≡_};
 ghost use mathlib.Core.Bool.{true};
-ghost use Prim.Native.Nat.{_+_, _≤_};
+ghost use mathlib.Core.List.{List};
+ghost use Prim.Native.Nat.{ℕ, _+_, _≤_};
 ghost use Rattle.schedule.specs.declared.Tweakey.{Tweakey};
 ghost use Rattle.schedule.specs.Schedule.{RoundKeys};
-ghost use Rattle.ciphers.specs.Ciphers.{widthOf, wordsOf, initOf, branchOf};
+ghost use Rattle.ciphers.specs.Ciphers.{widthOf, wordsOf, initOf, branchOf, tk};
+ghost use Rattle.prepared.specs.Prepared.{keyIn, Made};
+ghost use Rattle.kept.specs.Kept.{Lent};
 ghost use Rattle.forkskinny.specs.declared.Branch.the-variants.{Near, Far};
 ghost use Rattle.forkskinny.specs.ForkSkinny.{sideOf, otherOf, startOf, enter, forked, branch, unbranch, unforked};
-ghost use Rattle.forkskinny.specs.Reach.{farIf, takesFar, reachOf};
-ghost use Rattle.forkskinny.specs.Calls.{given, wants, roundsIf, roundsFor, forkRounds, forkRefused, forkBy, forkOf, unforkRounds, unforkRefused, unforkBy, unforkOf};
+ghost use Rattle.forkskinny.specs.Reach.{farIf, takesFar, reachOf, forkReach, unforkReach};
+ghost use Rattle.forkskinny.specs.Calls.{given, wants, roundsIf, roundsFor, forkRounds, forkRefusedWith, forkBy, forkOf, forkUnder, forkWith, unforkRounds, unforkRefusedWith, unforkBy, unforkOf, unforkUnder, unforkWith};
 use by_cipher::run;
 use by_cipher::run_apart;
 use by_cipher::run_both;
 use by_cipher::unrun;
 use ciphers::Cipher;
+use kept::Kept;
+use prepared::Prepared;
 
 // After the fork the near branch goes on, and the far one takes the rounds after it.
 pub enum Branch {
@@ -227,32 +232,33 @@ pub struct Forked {
     pub rounds: u32,
 }
 
-fn fork_refused() -> Forked
-    ensures { λ r. ⌜ r ≡ forkRefused ⌝ }
+fn fork_refused(number: u32) -> Forked
+    ensures { λ r. ⌜ r ≡ forkRefusedWith number ⌝ }
 {
     Forked {
-        number: 1,
+        number,
         half0: [0u8; 16],
         half1: [0u8; 16],
         rounds: 0,
     }
 }
 
-// The same under a cipher, for the modes.
-pub fn fork_by(c: Cipher, key: [u8; 16], tweak: [u8; 16], block: [u8; 16], want: u32) -> Forked
-    ensures { λ r. ⌜ r ≡ forkBy c key tweak block want ⌝ }
+// The rounds whose keys a call forward takes.
+pub fn fork_reach(c: Cipher, want: u32) -> usize
+    ensures { λ r. ⌜ (r ≡ forkReach c want) × (r ≤ 87) ⌝ }
 {
     let first = is_wanted(0, want);
     let second = is_wanted(1, want);
-    let far = takes_far(first, 0, second, 1);
-    let m = reach_of(c, far);
-    ciphers::bytes_known(&key);
-    ciphers::bytes_known(&tweak);
-    let mut keys = constants::room();
-    ciphers::lay_keys(c, &mut keys, m, ciphers::load_key(c, key, tweak));
-    let s = to_fork(c, &keys, block);
+    reach_of(c, takes_far(first, 0, second, 1))
+}
+
+// A call forward with keys that are laid.
+pub fn fork_laid(c: Cipher, keys: &[[u8; 8]; 97], block: [u8; 16], want: u32) -> Forked
+    ensures { λ r. ⌜ ((key tweak : List ℕ) → RoundKeys (widthOf c) (wordsOf c) (forkReach c want) (tk c key tweak) (now (keys .entry)) → r ≡ forkBy c key tweak block want) ⌝ }
+{
+    let s = to_fork(c, keys, block);
     if want == 2 {
-        let both = both_halves(c, &keys, s);
+        let both = both_halves(c, keys, s);
         let half0 = both.first;
         let half1 = both.second;
         return Forked {
@@ -262,8 +268,8 @@ pub fn fork_by(c: Cipher, key: [u8; 16], tweak: [u8; 16], block: [u8; 16], want:
             rounds: fork_rounds(c, want),
         };
     }
-    let half0 = half_if(first, c, 0, &keys, s);
-    let half1 = half_if(second, c, 1, &keys, s);
+    let half0 = half_if(is_wanted(0, want), c, 0, keys, s);
+    let half1 = half_if(is_wanted(1, want), c, 1, keys, s);
     Forked {
         number: 0,
         half0,
@@ -272,20 +278,99 @@ pub fn fork_by(c: Cipher, key: [u8; 16], tweak: [u8; 16], block: [u8; 16], want:
     }
 }
 
+// The same from a key's share, in a room of its own.
+fn fork_by(c: Cipher, share: &[u8; 784], tweak: [u8; 16], block: [u8; 16], want: u32) -> Forked
+    requires { ⌜ Made c (now share) ⌝ }
+    ensures { λ r. ⌜ r ≡ forkBy c (keyIn c (now (share .entry))) tweak block want ⌝ }
+{
+    let m = fork_reach(c, want);
+    let mut keys = constants::room();
+    kept::lay(c, share, &mut keys, tweak, m);
+    fork_laid(c, &keys, block, want)
+}
+
+// A call forward, and what its room for round keys then holds.
+pub struct ForkedOn {
+    pub forked: Forked,
+    pub kept: Kept,
+}
+
+// The same in a room that is kept from block to block.
+pub fn fork_on(
+    c: Cipher,
+    share: &[u8; 784],
+    keys: &mut [[u8; 8]; 97],
+    kept: Kept,
+    tweak: [u8; 16],
+    block: [u8; 16],
+    want: u32,
+) -> ForkedOn
+    requires { ⌜ Lent c (now share) kept (now keys) ⌝ }
+    ensures { λ r. ⌜ (r .forked ≡ forkBy c (keyIn c (now (share .entry))) tweak block want) × Lent c (now (share .entry)) (r .kept) (now (keys .exit)) ⌝ }
+{
+    let m = fork_reach(c, want);
+    let turned = kept::turn_to(c, share, keys, kept, tweak, m);
+    let forked = fork_laid(c, keys, block, want);
+    ForkedOn {
+        forked,
+        kept: turned,
+    }
+}
+
+fn fork_of_key(c: Cipher, key: [u8; 16], tweak: [u8; 16], block: [u8; 16], want: u32) -> Forked
+    ensures { λ r. ⌜ r ≡ forkBy c key tweak block want ⌝ }
+{
+    ciphers::bytes_known(&key);
+    let share = prepared::share_of(c, key);
+    fork_by(c, &share, tweak, block, want)
+}
+
 // ForkSkinny forward: half 0 (want 0), half 1 (want 1) or both (want 2) of a block, under the cipher that a number names.
-pub fn fork(cipher: u32, key: [u8; 16], tweak: [u8; 16], block: [u8; 16], want: u32) -> Forked
+pub fn fork_by_key(
+    cipher: u32,
+    key: [u8; 16],
+    tweak: [u8; 16],
+    block: [u8; 16],
+    want: u32,
+) -> Forked
     ensures { λ r. ⌜ r ≡ forkOf cipher key tweak block want ⌝ }
 {
     if 2 < want {
-        return fork_refused();
+        return fork_refused(1);
     }
     if cipher == 1 {
-        return fork_by(Cipher::N64T192, key, tweak, block, want);
+        return fork_of_key(Cipher::N64T192, key, tweak, block, want);
     }
     if cipher == 2 {
-        return fork_by(Cipher::N128T256, key, tweak, block, want);
+        return fork_of_key(Cipher::N128T256, key, tweak, block, want);
     }
-    fork_refused()
+    fork_refused(1)
+}
+
+fn fork_under(c: Cipher, key: Prepared, tweak: [u8; 16], block: [u8; 16], want: u32) -> Forked
+    ensures { λ r. ⌜ r ≡ forkUnder c key tweak block want ⌝ }
+{
+    if prepared::judge(c, key) {
+        let share = key.share;
+        return fork_by(c, &share, tweak, block, want);
+    }
+    fork_refused(2)
+}
+
+// The same with a prepared key. Refused with 2, after 1, where it is not one of this cipher's.
+pub fn fork(cipher: u32, key: Prepared, tweak: [u8; 16], block: [u8; 16], want: u32) -> Forked
+    ensures { λ r. ⌜ r ≡ forkWith cipher key tweak block want ⌝ }
+{
+    if 2 < want {
+        return fork_refused(1);
+    }
+    if cipher == 1 {
+        return fork_under(Cipher::N64T192, key, tweak, block, want);
+    }
+    if cipher == 2 {
+        return fork_under(Cipher::N128T256, key, tweak, block, want);
+    }
+    fork_refused(1)
 }
 
 // The rounds of a call back: those of the branch whose half is given, those before the fork where the input is asked for, and those of
@@ -307,40 +392,39 @@ pub struct Unforked {
     pub rounds: u32,
 }
 
-fn unfork_refused() -> Unforked
-    ensures { λ r. ⌜ r ≡ unforkRefused ⌝ }
+fn unfork_refused(number: u32) -> Unforked
+    ensures { λ r. ⌜ r ≡ unforkRefusedWith number ⌝ }
 {
     Unforked {
-        number: 1,
+        number,
         input: [0u8; 16],
         other: [0u8; 16],
         rounds: 0,
     }
 }
 
-// The same under a cipher, for the modes; from is 0 or 1.
-pub fn unfork_by(
+// The rounds whose keys a call back takes.
+pub fn unfork_reach(c: Cipher, from: u32, want: u32) -> usize
+    ensures { λ r. ⌜ (r ≡ unforkReach c from want) × (r ≤ 87) ⌝ }
+{
+    let second = is_wanted(1, want);
+    reach_of(c, takes_far(true, from, second, other_of(from)))
+}
+
+// A call back with keys that are laid; from is 0 or 1.
+pub fn unfork_laid(
     c: Cipher,
-    key: [u8; 16],
-    tweak: [u8; 16],
+    keys: &[[u8; 8]; 97],
     block: [u8; 16],
     from: u32,
     want: u32,
 ) -> Unforked
-    ensures { λ r. ⌜ r ≡ unforkBy c key tweak block from want ⌝ }
+    ensures { λ r. ⌜ ((key tweak : List ℕ) → RoundKeys (widthOf c) (wordsOf c) (unforkReach c from want) (tk c key tweak) (now (keys .entry)) → r ≡ unforkBy c key tweak block from want) ⌝ }
 {
-    let first = is_wanted(0, want);
-    let second = is_wanted(1, want);
     let to = other_of(from);
-    let far = takes_far(true, from, second, to);
-    let m = reach_of(c, far);
-    ciphers::bytes_known(&key);
-    ciphers::bytes_known(&tweak);
-    let mut keys = constants::room();
-    ciphers::lay_keys(c, &mut keys, m, ciphers::load_key(c, key, tweak));
-    let s = unrun_branch(c, side_of(from), &keys, block);
+    let s = unrun_branch(c, side_of(from), keys, block);
     if want == 2 {
-        let both = both_ends(c, side_of(to), &keys, s);
+        let both = both_ends(c, side_of(to), keys, s);
         let input = both.first;
         let other = both.second;
         return Unforked {
@@ -350,8 +434,8 @@ pub fn unfork_by(
             rounds: unfork_rounds(c, want),
         };
     }
-    let input = input_if(first, c, &keys, s);
-    let other = half_if(second, c, to, &keys, s);
+    let input = input_if(is_wanted(0, want), c, keys, s);
+    let other = half_if(is_wanted(1, want), c, to, keys, s);
     Unforked {
         number: 0,
         input,
@@ -360,8 +444,70 @@ pub fn unfork_by(
     }
 }
 
+// The same from a key's share, in a room of its own.
+fn unfork_by(
+    c: Cipher,
+    share: &[u8; 784],
+    tweak: [u8; 16],
+    block: [u8; 16],
+    from: u32,
+    want: u32,
+) -> Unforked
+    requires { ⌜ Made c (now share) ⌝ }
+    ensures { λ r. ⌜ r ≡ unforkBy c (keyIn c (now (share .entry))) tweak block from want ⌝ }
+{
+    let m = unfork_reach(c, from, want);
+    let mut keys = constants::room();
+    kept::lay(c, share, &mut keys, tweak, m);
+    unfork_laid(c, &keys, block, from, want)
+}
+
+// A call back, and what its room for round keys then holds.
+pub struct UnforkedOn {
+    pub unforked: Unforked,
+    pub kept: Kept,
+}
+
+// The same in a room that is kept from block to block.
+pub fn unfork_on(
+    c: Cipher,
+    share: &[u8; 784],
+    keys: &mut [[u8; 8]; 97],
+    kept: Kept,
+    tweak: [u8; 16],
+    block: [u8; 16],
+    from: u32,
+    want: u32,
+) -> UnforkedOn
+    requires { ⌜ Lent c (now share) kept (now keys) ⌝ }
+    ensures { λ r. ⌜ (r .unforked ≡ unforkBy c (keyIn c (now (share .entry))) tweak block from want) × Lent c (now (share .entry)) (r .kept) (now (keys .exit)) ⌝ }
+{
+    let m = unfork_reach(c, from, want);
+    let turned = kept::turn_to(c, share, keys, kept, tweak, m);
+    let unforked = unfork_laid(c, keys, block, from, want);
+    UnforkedOn {
+        unforked,
+        kept: turned,
+    }
+}
+
+fn unfork_of_key(
+    c: Cipher,
+    key: [u8; 16],
+    tweak: [u8; 16],
+    block: [u8; 16],
+    from: u32,
+    want: u32,
+) -> Unforked
+    ensures { λ r. ⌜ r ≡ unforkBy c key tweak block from want ⌝ }
+{
+    ciphers::bytes_known(&key);
+    let share = prepared::share_of(c, key);
+    unfork_by(c, &share, tweak, block, from, want)
+}
+
 // Back from a half (from 0 or 1): the input block (want 0), the other half (want 1) or both (want 2).
-pub fn unfork(
+pub fn unfork_by_key(
     cipher: u32,
     key: [u8; 16],
     tweak: [u8; 16],
@@ -372,16 +518,59 @@ pub fn unfork(
     ensures { λ r. ⌜ r ≡ unforkOf cipher key tweak block from want ⌝ }
 {
     if 1 < from {
-        return unfork_refused();
+        return unfork_refused(1);
     }
     if 2 < want {
-        return unfork_refused();
+        return unfork_refused(1);
     }
     if cipher == 1 {
-        return unfork_by(Cipher::N64T192, key, tweak, block, from, want);
+        return unfork_of_key(Cipher::N64T192, key, tweak, block, from, want);
     }
     if cipher == 2 {
-        return unfork_by(Cipher::N128T256, key, tweak, block, from, want);
+        return unfork_of_key(Cipher::N128T256, key, tweak, block, from, want);
     }
-    unfork_refused()
+    unfork_refused(1)
+}
+
+fn unfork_under(
+    c: Cipher,
+    key: Prepared,
+    tweak: [u8; 16],
+    block: [u8; 16],
+    from: u32,
+    want: u32,
+) -> Unforked
+    ensures { λ r. ⌜ r ≡ unforkUnder c key tweak block from want ⌝ }
+{
+    if prepared::judge(c, key) {
+        let share = key.share;
+        return unfork_by(c, &share, tweak, block, from, want);
+    }
+    unfork_refused(2)
+}
+
+// The same with a prepared key. Refused with 2, after 1, where it is not one of this cipher's.
+pub fn unfork(
+    cipher: u32,
+    key: Prepared,
+    tweak: [u8; 16],
+    block: [u8; 16],
+    from: u32,
+    want: u32,
+) -> Unforked
+    ensures { λ r. ⌜ r ≡ unforkWith cipher key tweak block from want ⌝ }
+{
+    if 1 < from {
+        return unfork_refused(1);
+    }
+    if 2 < want {
+        return unfork_refused(1);
+    }
+    if cipher == 1 {
+        return unfork_under(Cipher::N64T192, key, tweak, block, from, want);
+    }
+    if cipher == 2 {
+        return unfork_under(Cipher::N128T256, key, tweak, block, from, want);
+    }
+    unfork_refused(1)
 }

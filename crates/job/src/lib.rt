@@ -2,8 +2,8 @@
 pub mod sections;
 
 use sealing::Answer;
-use sealing::open;
-use sealing::seal;
+use sealing::open_by_key;
+use sealing::seal_by_key;
 use sealing::view;
 use sections::behind;
 use sections::section;
@@ -52,9 +52,9 @@ pub fn run(job: &[u8], room: &mut [u8]) -> Answer
     let header = section(from_header);
     let body = section(from_body);
     if direction == 0 {
-        return seal(scheme as u32, key, nonce, header, body, room);
+        return seal_by_key(scheme as u32, key, nonce, header, body, room);
     }
-    open(scheme as u32, key, nonce, header, body, room)
+    open_by_key(scheme as u32, key, nonce, header, body, room)
 }
 
 // Runs a job and lays its line down at the front of the text; answers how long the line is. The room takes every output of a job, and

@@ -18,7 +18,7 @@ pub extern "C" fn meter_fork(
 ) -> u32
     ensures { λ r. ⌜ forkTold r (now (half0 .exit)) (now (half1 .exit)) (now (rounds .exit)) ≡ forkOf cipher (now (key .entry)) (now (tweak .entry)) (now (block .entry)) want ⌝ }
 {
-    let f = forkskinny::fork(cipher, *key, *tweak, *block, want);
+    let f = forkskinny::fork_by_key(cipher, *key, *tweak, *block, want);
     let a = f.half0;
     let b = f.half1;
     *half0 = a;
@@ -41,7 +41,7 @@ pub extern "C" fn meter_unfork(
 ) -> u32
     ensures { λ r. ⌜ unforkTold r (now (input .exit)) (now (other .exit)) (now (rounds .exit)) ≡ unforkOf cipher (now (key .entry)) (now (tweak .entry)) (now (block .entry)) from want ⌝ }
 {
-    let u = forkskinny::unfork(cipher, *key, *tweak, *block, from, want);
+    let u = forkskinny::unfork_by_key(cipher, *key, *tweak, *block, from, want);
     let a = u.input;
     let b = u.other;
     *input = a;
@@ -63,7 +63,7 @@ pub extern "C" fn meter_seal(
 ) -> u32
     ensures { λ r. ⌜ callTold r (now (length .exit)) (now (room .exit)) (now (rounds .exit)) ≡ sealOf scheme (now (key .entry)) (now (nonce .entry)) (now (header .entry)) (now (body .entry)) (now (room .entry)) ⌝ }
 {
-    let a = sealing::seal(scheme, key, nonce, header, body, room);
+    let a = sealing::seal_by_key(scheme, key, nonce, header, body, room);
     *length = a.length;
     *rounds = a.rounds;
     a.number
@@ -82,7 +82,7 @@ pub extern "C" fn meter_open(
 ) -> u32
     ensures { λ r. ⌜ callTold r (now (length .exit)) (now (room .exit)) (now (rounds .exit)) ≡ openOf scheme (now (key .entry)) (now (nonce .entry)) (now (header .entry)) (now (sealed .entry)) (now (room .entry)) ⌝ }
 {
-    let b = sealing::open(scheme, key, nonce, header, sealed, room);
+    let b = sealing::open_by_key(scheme, key, nonce, header, sealed, room);
     *length = b.length;
     *rounds = b.rounds;
     b.number

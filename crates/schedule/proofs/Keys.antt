@@ -1,7 +1,7 @@
 -- What the code that lays round keys keeps, over the width and the number of words: two keys more, sixteen more, and behind the
--- first row all to the round at which the tweakey stands. Assumes nothing.
+-- first row all to the round at which the tweak's word stands. Assumes nothing.
 use mathlib.Core.Path.{_≡_, refl, sym, ap, ap₂, _∙_, subst, subst⁻¹}
-use Prim.Native.Nat.{ℕ, zero, suc, _+_, _*_, _-_, _<_, _≤_}
+use Prim.Native.Nat.{ℕ, zero, suc, _+_, _*_, _-_, _/_, _<_, _≤_}
 use mathlib.Core.List.{List, []}
 use mathlib.Core.Logic.{_≢_}
 use native.Mathlib.Decide.{decLt}
@@ -9,15 +9,18 @@ use native.Mathlib.Numerals.{add-one}
 use native.Mathlib.Omega.{arith}
 use borrow.Author.Count.{below-none, below-more}
 use lib.Dec.{T, ltb, ltb→lt}
-use lib.ListN.{length, getD, length-set}
+use lib.ListN.{length, getD, set, length-set}
 use lib.Seq.{getD-set-same, getD-set-other}
-use Rattle.cells.specs.Cells.{Width, Words, LowCells}
+use Rattle.cells.specs.Cells.{Width, Words}
 use Rattle.schedule.specs.declared.Tweakey.{Tweakey}
+use Rattle.schedule.specs.declared.Moving.{Moving}
 use Rattle.constants.specs.Constants.{constant, constantRow, Room}
 use Rattle.schedule.specs.Schedule.{keyRow, roundKey, advance, xorRow, RoundKeys}
-use Rattle.schedule.specs.Sixteen.{Sums, moved, rowLaid, pairLaid, Laid}
+use Rattle.schedule.specs.Sixteen.{moved, rowLaid, pairLaid, Laid}
+use Rattle.schedule.specs.Share.{tweakStep, Parts, Summed, Along, Turn}
 use Rattle.schedule.proofs.Places.{advance-at, advance-add}
-use Rattle.schedule.proofs.Sixteen.{first-key, second-key}
+use Rattle.schedule.proofs.Share.{first-row, along-first, along-sums, along-more}
+use Rattle.schedule.proofs.Sixteen.{Sums, first-key, second-key}
 
 -- the key of round r, counted from the tweakey t
 abbrev keyAt : Width → Words → Tweakey → ℕ → List ℕ
@@ -47,46 +50,54 @@ laid-more {w} {n} {t} {b} {x} {before} {keys} i q s h e = record {
   other r = getD-set-other keys i r laid []
 
 -- what the eight calls of `lay_two` do
-abbrev pub LaidTwo : Tweakey → List (List ℕ) → ℕ → List (List ℕ) → List (List ℕ) → Type 0
-LaidTwo t sums k keys keys′ = keys′ ≡ pairLaid (t .at + 2 * k + 1) (moved (k + 1) (getD sums k [])) keys
+abbrev pub LaidTwo : ℕ → List (List ℕ) → ℕ → List (List ℕ) → List (List ℕ) → Type 0
+LaidTwo at sums k keys keys′ = keys′ ≡ pairLaid (at + 2 * k + 1) (moved (k + 1) (getD sums k [])) keys
 
 laid-two
-    : {w : Width} {n : Words} {t : Tweakey} {sums before keys keys′ : List (List ℕ)} (k : ℕ)
-    → Sums w n (t .cells) sums → t .at + 16 < length before
-    → T (ltb k 8) → Laid w n t (2 * k) before keys → LaidTwo t sums k keys keys′ → Laid w n t (2 * (k + 1)) before keys′
-laid-two {w} {n} {t} {sums} {before} {keys} {keys′} k s h p r e =
+    : {w : Width} {n : Words} {t : Tweakey} {at : ℕ} {sums before keys keys′ : List (List ℕ)} (k : ℕ)
+    → Sums w n (t .cells) sums → (t .at ≡ at) × (at + 16 < length before)
+    → T (ltb k 8) → Laid w n t (2 * k) before keys → LaidTwo at sums k keys keys′ → Laid w n t (2 * (k + 1)) before keys′
+laid-two {w} {n} {t} {at} {sums} {before} {keys} {keys′} k s (q, h) p r e =
     let l = ltb→lt k 8 p in
     let two : 2 * k + 1 + 1 ≡ 2 * (k + 1) = omega arith in
-    let i = t .at + 2 * k + 1 in
+    let i = at + 2 * k + 1 in
     let last : 2 * k + 2 ≡ 2 * k + 1 + 1 = omega arith in
     subst (λ (b : ℕ). Laid w n t b before keys′) two
     (subst⁻¹ (Laid w n t (2 * k + 1 + 1) before) e
-    (laid-more (i + 1) (omega arith) (laid-more i refl r (omega arith) (first-key w t s k l)) (omega arith)
+    (laid-more (i + 1) (omega arith) (laid-more i (omega arith) r (omega arith) (first-key w t s k l)) (omega arith)
     (second-key w t s k l ∙ ap (keyAt w n t) last)))
 
-pub laid-sixteen
-    : {w : Width} {n : Words} {t : Tweakey} {sums k₀ k₁ k₂ k₃ k₄ k₅ k₆ k₇ k₈ : List (List ℕ)}
-    → Sums w n (t .cells) sums → t .at + 16 < length k₀
-    → LaidTwo t sums 0 k₀ k₁ → LaidTwo t sums 1 k₁ k₂ → LaidTwo t sums 2 k₂ k₃ → LaidTwo t sums 3 k₃ k₄
-    → LaidTwo t sums 4 k₄ k₅ → LaidTwo t sums 5 k₅ k₆ → LaidTwo t sums 6 k₆ k₇ → LaidTwo t sums 7 k₇ k₈ → Laid w n t 16 k₀ k₈
+laid-sixteen
+    : {w : Width} {n : Words} {t : Tweakey} {at : ℕ} {sums k₀ k₁ k₂ k₃ k₄ k₅ k₆ k₇ k₈ : List (List ℕ)}
+    → Sums w n (t .cells) sums → (t .at ≡ at) × (at + 16 < length k₀)
+    → LaidTwo at sums 0 k₀ k₁ → LaidTwo at sums 1 k₁ k₂ → LaidTwo at sums 2 k₂ k₃ → LaidTwo at sums 3 k₃ k₄
+    → LaidTwo at sums 4 k₄ k₅ → LaidTwo at sums 5 k₅ k₆ → LaidTwo at sums 6 k₆ k₇ → LaidTwo at sums 7 k₇ k₈ → Laid w n t 16 k₀ k₈
 laid-sixteen s h e₀ e₁ e₂ e₃ e₄ e₅ e₆ e₇ =
     let four = laid-two 3 s h tt (laid-two 2 s h tt (laid-two 1 s h tt (laid-two 0 s h tt laid-none e₀) e₁) e₂) e₃ in
     laid-two 7 s h tt (laid-two 6 s h tt (laid-two 5 s h tt (laid-two 4 s h tt four e₄) e₅) e₆) e₇
 
+-- a turn is the tweak's steps and these calls
+pub turn
+    : {w : Width} {n : Words} {u v : Moving} {share : List ℕ} {sums k₀ k₁ k₂ k₃ k₄ k₅ k₆ k₇ k₈ : List (List ℕ)}
+    → (u .at < 81) × (length k₀ ≡ 97) → v .at ≡ u .at + 16 → Summed (tweakStep w n) (u .at / 2 + 1) share (u .cells) (v .cells) sums
+    → LaidTwo (u .at) sums 0 k₀ k₁ → LaidTwo (u .at) sums 1 k₁ k₂ → LaidTwo (u .at) sums 2 k₂ k₃ → LaidTwo (u .at) sums 3 k₃ k₄
+    → LaidTwo (u .at) sums 4 k₄ k₅ → LaidTwo (u .at) sums 5 k₅ k₆ → LaidTwo (u .at) sums 6 k₆ k₇ → LaidTwo (u .at) sums 7 k₇ k₈
+    → Turn w n share u v k₀ k₈
+turn {u = u} {sums = sums} {k₀} {k₁} {k₂} {k₃} {k₄} {k₅} {k₆} {k₇} {k₈} (h, l) e s e₀ e₁ e₂ e₃ e₄ e₅ e₆ e₇ = record {
+  on = e;
+  long = two 7 k₇ k₈ e₇ ∙ two 6 k₆ k₇ e₆ ∙ two 5 k₅ k₆ e₅ ∙ two 4 k₄ k₅ e₄ ∙ two 3 k₃ k₄ e₃ ∙ two 2 k₂ k₃ e₂ ∙ two 1 k₁ k₂ e₁ ∙ two 0 k₀ k₁ e₀;
+  led = λ t a. (along-more a e s, laid-sixteen (along-sums h a s) (a .here, omega arith) e₀ e₁ e₂ e₃ e₄ e₅ e₆ e₇);
+} where
+  two : (k : ℕ) (keys keys′ : List (List ℕ)) → LaidTwo (u .at) sums k keys keys′ → length keys′ ≡ length keys
+  two k keys keys′ q = let i = u .at + 2 * k + 1 in ap length q ∙ length-set (set keys i _) (i + 1) _ ∙ length-set keys i _
+
 -- ---- all keys
-
--- where a tweakey stands that a rounds led to, and where m more lead
-pub led-at : (w : Width) (n : Words) (a : ℕ) (t u : Tweakey) → u ≡ advance w n a t → u .at ≡ t .at + a
-led-at w n a t u e = ap (λ (x : Tweakey). x .at) e ∙ advance-at w n a t
-
-led-on : (w : Width) (n : Words) (a : ℕ) (t u : Tweakey) → u ≡ advance w n a t → (m : ℕ) → advance w n m u ≡ advance w n (a + m) t
-led-on w n a t u e m = ap (advance w n m) e ∙ advance-add w n a m t
 
 -- first the keys of a rounds, then those of b more
 laid-on
-    : {w : Width} {n : Words} {t u : Tweakey} {a b : ℕ} {before keys keys′ : List (List ℕ)}
-    → Laid w n t a before keys → u ≡ advance w n a t → Laid w n u b keys keys′ → Laid w n t (a + b) before keys′
-laid-on {w} {n} {t} {u} {a} {b} {before} {keys} {keys′} s e l = record {
+    : {w : Width} {n : Words} {t : Tweakey} {a b : ℕ} {before keys keys′ : List (List ℕ)}
+    → Laid w n t a before keys → Laid w n (advance w n a t) b keys keys′ → Laid w n t (a + b) before keys′
+laid-on {w} {n} {t} {a} {b} {before} {keys} {keys′} s l = record {
   long = l .long ∙ s .long;
   front = λ r p. l .front r (omega (arith, here)) ∙ s .front r p;
   rows = λ k p. elim (decLt k a) [
@@ -97,53 +108,70 @@ laid-on {w} {n} {t} {u} {a} {b} {before} {keys} {keys′} s e l = record {
         subst (λ (i : ℕ). getD keys′ i [] ≡ xorRow (getD before i []) (keyAt w n t (k + 1))) r
         (l .rows j (omega arith)
         ∙ ap₂ xorRow (s .behind (u .at + j + 1) (omega (arith, here)))
-        (ap (λ (x : Tweakey). roundKey n (x .cells)) (led-on w n a t u e (j + 1)) ∙ ap (keyAt w n t) m))
+        (ap (λ (x : Tweakey). roundKey n (x .cells)) (advance-add w n a (j + 1) t) ∙ ap (keyAt w n t) m))
   ];
   behind = λ r p. l .behind r (omega (arith, here)) ∙ s .behind r (omega arith);
 } where
-  here : u .at ≡ t .at + a
-  here = led-at w n a t u e
+  u : Tweakey
+  u = advance w n a t
 
--- t has gone on to u by turns of sixteen rounds, and the keys of the rounds to there are laid, but for the first
-pub record Keys (w : Width) (n : Words) (t u : Tweakey) (before keys : List (List ℕ)) : Type 0 where
+  here : u .at ≡ t .at + a
+  here = advance-at w n a t
+
+-- u has gone on by turns of sixteen rounds; of a tweakey whose parts the share and the tweak are, the keys of the rounds to there are laid,
+-- but for the first
+pub record Keys (w : Width) (n : Words) (share tweak : List ℕ) (before : List (List ℕ)) (u : Moving) (keys : List (List ℕ)) : Type 0 where
   pub turns : ℕ
   pub whole : u .at ≡ 16 * turns
   pub most : turns ≤ 6
-  pub now : u ≡ advance w n (u .at) t
-  pub laid : Laid w n t (u .at) before keys
+  pub long : length keys ≡ length before
+  pub led : (t : Tweakey) → Parts w n t share tweak → Along w n (advance w n (u .at) t) share u × Laid w n t (u .at) before keys
 
 -- before the first turn
-pub keys-none : (w : Width) (n : Words) (t : Tweakey) (keys : List (List ℕ)) → t .at ≡ 0 → Keys w n t t keys keys
+pub keys-none
+    : (w : Width) (n : Words) (share tweak : List ℕ) (keys : List (List ℕ)) → Keys w n share tweak keys (record { cells = tweak; at = 0 }) keys
 unfolding advance
-keys-none w n t keys z = record {
+keys-none w n share tweak keys = record {
   turns = 0;
-  whole = z;
+  whole = refl;
   most = omega arith;
-  now = ap (λ (m : ℕ). advance w n m t) (sym z);
-  laid = subst⁻¹ (λ (b : ℕ). Laid w n t b keys keys) z laid-none;
+  long = refl;
+  led = λ t p. (along-first p, laid-none);
 }
 
-module _ {w : Width} {n : Words} {t u : Tweakey} {before keys : List (List ℕ)} (s : Keys w n t u before keys) where
+module _ {w : Width} {n : Words} {share tweak : List ℕ} {before keys : List (List ℕ)} {u : Moving} (s : Keys w n share tweak before u keys) where
   -- a turn
-  pub keys-more
-      : {v : Tweakey} {keys′ : List (List ℕ)} → u .at < 86 → (v ≡ advance w n 16 u) × Laid w n u 16 keys keys′ → Keys w n t v before keys′
-  keys-more {v} {keys′} h (e, l) = record {
+  pub keys-more : {v : Moving} {keys′ : List (List ℕ)} → u .at < 86 → Turn w n share u v keys keys′ → Keys w n share tweak before v keys′
+  keys-more {v} {keys′} h e = record {
     turns = s .turns + 1;
-    whole = omega (arith, s .whole, on);
+    whole = omega (arith, s .whole, e .on);
     most = omega (arith, s .whole);
-    now = e ∙ led-on w n (u .at) t u (s .now) 16 ∙ ap (λ (k : ℕ). advance w n k t) (sym on);
-    laid = subst⁻¹ (λ (b : ℕ). Laid w n t b before keys′) on (laid-on (s .laid) (s .now) l);
-  } where
-    on : v .at ≡ u .at + 16
-    on = led-at w n 16 u v e
+    long = e .long ∙ s .long;
+    led = λ t p.
+        let (a, l) = s .led t p in
+        let (b, k) = e .led (advance w n (u .at) t) a in (
+          subst (λ (x : Tweakey). Along w n x share v) (advance-add w n (u .at) 16 t ∙ ap (λ (m : ℕ). advance w n m t) (sym (e .on))) b,
+          subst⁻¹ (λ (m : ℕ). Laid w n t m before keys′) (e .on) (laid-on l k),
+        );
+  }
 
   -- the first key, behind the loop
+  pub keys-long : {m : ℕ} {keys′ : List (List ℕ)} → (m ≤ 87) × Room before → keys′ ≡ rowLaid 0 (xorRow share tweak) keys → length keys′ ≡ 97
+  keys-long (fit, room) e = ap length e ∙ length-set keys 0 (xorRow (getD keys 0 []) (xorRow share tweak)) ∙ s .long ∙ room .long
+
   pub keys-all
       : {m : ℕ} {keys′ : List (List ℕ)}
-      → (m ≤ 87) × (t .at ≡ 0) × LowCells w (t .cells) × Room before → m ≤ u .at + 1 → keys′ ≡ rowLaid 0 (keyRow n (t .cells)) keys
-      → RoundKeys w n m t keys′
+      → (m ≤ 87) × Room before → m ≤ u .at + 1 → keys′ ≡ rowLaid 0 (xorRow share tweak) keys
+      → (t : Tweakey) → Parts w n t share tweak → RoundKeys w n m t keys′
   unfolding roundKey advance
-  keys-all {m} {keys′} (fit, z, low, room) h e = record { first = z; low = low; at = λ k p. ap (λ (l : List (List ℕ)). getD l k []) e ∙ laid k p } where
+  keys-all {m} {keys′} (fit, room) h e t p = record {
+    first = p .first;
+    low = p .low;
+    at = λ k q. ap (λ (l : List (List ℕ)). getD l k []) (e ∙ ap (λ (r : List ℕ). rowLaid 0 r keys) (first-row p)) ∙ laid k q;
+  } where
+    l : Laid w n t (u .at) before keys
+    l = s .led t p .1
+
     first : List ℕ
     first = keyRow n (t .cells)
 
@@ -151,11 +179,11 @@ module _ {w : Width} {n : Words} {t u : Tweakey} {before keys : List (List ℕ)}
     row = xorRow (getD keys 0 []) first
 
     laid : (k : ℕ) → k < m → getD (rowLaid 0 first keys) k [] ≡ xorRow (constantRow (constant k)) (keyAt w n t k)
-    laid zero p =
-        getD-set-same keys 0 row [] (omega (arith, s .laid .long, room .long))
-        ∙ ap (λ (c : List ℕ). xorRow c first) (s .laid .front 0 (omega arith) ∙ room .at 0 (omega arith))
-    laid (suc k) p =
-        let i : t .at + k + 1 ≡ suc k = omega (arith, z) in
-        getD-set-other keys 0 (suc k) row [] (λ q. omega arith)
-        ∙ subst (λ (j : ℕ). getD keys j [] ≡ xorRow (getD before j []) (keyAt w n t (k + 1))) i (s .laid .rows k (omega arith))
+    laid zero q =
+        getD-set-same keys 0 row [] (omega (arith, s .long, room .long))
+        ∙ ap (λ (c : List ℕ). xorRow c first) (l .front 0 (omega arith) ∙ room .at 0 (omega arith))
+    laid (suc k) q =
+        let i : t .at + k + 1 ≡ suc k = omega (arith, p .first) in
+        getD-set-other keys 0 (suc k) row [] (λ z. omega arith)
+        ∙ subst (λ (j : ℕ). getD keys j [] ≡ xorRow (getD before j []) (keyAt w n t (k + 1))) i (l .rows k (omega arith))
         ∙ ap₂ xorRow (room .at (suc k) (omega arith)) (ap (keyAt w n t) (add-one k))

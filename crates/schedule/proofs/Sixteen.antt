@@ -14,7 +14,7 @@ use Rattle.cells.specs.Cells.{Width, Words, Two, Three}
 use Rattle.cells.proofs.Below.{tab, table}
 use Rattle.schedule.specs.declared.Tweakey.{Tweakey}
 use Rattle.schedule.specs.Schedule.{keyCell, roundKey, stepped, nextCells, advance}
-use Rattle.schedule.specs.Sixteen.{standing, Sums, movedOnce, moved, upper, lower}
+use Rattle.schedule.specs.Sixteen.{standing, movedOnce, moved, upper, lower}
 use Rattle.schedule.proofs.Places.{advance-at}
 use Rattle.schedule.proofs.Trails.{trail, stays, on-trail}
 
@@ -42,8 +42,12 @@ module _ (w : Width) where
 
 -- ---- the keys on the way: the sums, moved
 
+-- row k has the sixteen cells of every word, xored, after k + 1 steps
+pub record Sums (w : Width) (n : Words) (t : List ℕ) (sums : List (List ℕ)) : Type 0 where
+  pub at : (k j : ℕ) → k < 8 → j < 16 → getD (getD sums k []) j 0 ≡ keyCell n (standing w n (suc k) t) j
+
 -- two functions with the same values have the same table
-tab-same : (f g : ℕ → ℕ) (n i : ℕ) → ((j : ℕ) → j < i + n → f j ≡ g j) → tab f i n ≡ tab g i n
+pub tab-same : (f g : ℕ → ℕ) (n i : ℕ) → ((j : ℕ) → j < i + n → f j ≡ g j) → tab f i n ≡ tab g i n
 tab-same f g zero i e = refl
 tab-same f g (suc n) i e = λ k. e i (omega arith) k ∷ tab-same f g n (suc i) (λ j h. e j (omega arith)) k
 
@@ -62,7 +66,7 @@ trailKey w Two m t j = bitXor (trail w Two m t j) (trail w Two m t (16 + j))
 trailKey w Three m t j = bitXor (bitXor (trail w Three m t j) (trail w Three m t (16 + j))) (trail w Three m t (32 + j))
 
 -- what holds of 0 to 7
-below-8 : (P : ℕ → Type 0) → P 0 → P 1 → P 2 → P 3 → P 4 → P 5 → P 6 → P 7 → (k : ℕ) → k < 8 → P k
+pub below-8 : (P : ℕ → Type 0) → P 0 → P 1 → P 2 → P 3 → P 4 → P 5 → P 6 → P 7 → (k : ℕ) → k < 8 → P k
 below-8 P a b c d e f g h =
     below-more P 7
     (below-more P 6 (below-more P 5 (below-more P 4 (below-more P 3 (below-more P 2 (below-more P 1 (below-more P 0 (below-none P) a) b) c) d) e) f) g)
@@ -81,7 +85,7 @@ module _ (w : Width) where
   key-trail n m t = tab-same (keyCell n ((advance w n m t) .cells)) (trailKey w n m (t .cells)) 8 0 (key-cell n m t)
 
   -- row k of the sums
-  abbrev sumRow : Words → List ℕ → ℕ → List ℕ
+  abbrev pub sumRow : Words → List ℕ → ℕ → List ℕ
   sumRow n t k = tab (keyCell n (standing w n (suc k) t)) 0 16
 
   -- moved, its halves are two keys: computed for each of the eight rows
@@ -104,12 +108,18 @@ module _ (w : Width) where
       (moved-same (getD sums k []) (sumRow n t k) (λ j p. s .at k j h p ∙ sym (table (keyCell n (standing w n (suc k) t)) 16 j p)) k)
 
   -- its lower half has the key of the round 2k + 1 rounds on, its upper half the next one's
+  pub first-sums : (n : Words) (t : Tweakey) (k : ℕ) → k < 8 → lower (moved (k + 1) (sumRow n (t .cells) k)) ≡ roundKey n ((advance w n (2 * k + 1) t) .cells)
+  first-sums n t k h = first-trail n (t .cells) k h ∙ sym (key-trail n (2 * k + 1) t)
+
+  pub second-sums : (n : Words) (t : Tweakey) (k : ℕ) → k < 8 → upper (moved (k + 1) (sumRow n (t .cells) k)) ≡ roundKey n ((advance w n (2 * k + 2) t) .cells)
+  second-sums n t k h = second-trail n (t .cells) k h ∙ sym (key-trail n (2 * k + 2) t)
+
   pub first-key
       : {n : Words} (t : Tweakey) {sums : List (List ℕ)}
       → Sums w n (t .cells) sums → (k : ℕ) → k < 8 → lower (moved (k + 1) (getD sums k [])) ≡ roundKey n ((advance w n (2 * k + 1) t) .cells)
-  first-key {n} t s k h = ap lower (row s k h) ∙ first-trail n (t .cells) k h ∙ sym (key-trail n (2 * k + 1) t)
+  first-key {n} t s k h = ap lower (row s k h) ∙ first-sums n t k h
 
   pub second-key
       : {n : Words} (t : Tweakey) {sums : List (List ℕ)}
       → Sums w n (t .cells) sums → (k : ℕ) → k < 8 → upper (moved (k + 1) (getD sums k [])) ≡ roundKey n ((advance w n (2 * k + 2) t) .cells)
-  second-key {n} t s k h = ap upper (row s k h) ∙ second-trail n (t .cells) k h ∙ sym (key-trail n (2 * k + 2) t)
+  second-key {n} t s k h = ap upper (row s k h) ∙ second-sums n t k h

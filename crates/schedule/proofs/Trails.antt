@@ -10,7 +10,7 @@ use Rattle.schedule.specs.declared.Tweakey.{Tweakey}
 use Rattle.schedule.specs.Schedule.{permutedWords, stepped, nextCells, advance}
 
 -- a cell of a word, stepped as this word is: word 1 is not, nor is a word that is not there
-abbrev pub stepIn : Width → Words → ℕ → ℕ → ℕ
+abbrev stepIn : Width → Words → ℕ → ℕ → ℕ
 stepIn w n zero x = x
 stepIn w n (suc zero) x = step2 w x
 stepIn w Two (suc (suc k)) x = x

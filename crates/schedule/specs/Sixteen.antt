@@ -6,7 +6,7 @@ use mathlib.Core.List.{List, [], _∷_, _++_, map}
 use lib.ListN.{length, getD, set}
 use Rattle.cells.specs.Cells.{Width, Words, Two, Three, step2, step3}
 use Rattle.schedule.specs.declared.Tweakey.{Tweakey}
-use Rattle.schedule.specs.Schedule.{permuted, unmoved, keyCell, roundKey, xorRow, advance}
+use Rattle.schedule.specs.Schedule.{permuted, unmoved, roundKey, xorRow, advance}
 
 -- f so many times
 abbrev pub times : (ℕ → ℕ) → ℕ → ℕ → ℕ
@@ -17,10 +17,6 @@ times f (suc k) x = f (times f k x)
 unfoldable pub standing : Width → Words → ℕ → List ℕ → List ℕ
 standing w Two k t = unmoved 0 t ++ map (times (step2 w) k) (unmoved 16 t) ++ unmoved 32 t
 standing w Three k t = unmoved 0 t ++ map (times (step2 w) k) (unmoved 16 t) ++ map (times (step3 w) k) (unmoved 32 t)
-
--- row k has the sixteen cells of every word, xored, after k + 1 steps
-pub record Sums (w : Width) (n : Words) (t : List ℕ) (sums : List (List ℕ)) : Type 0 where
-  pub at : (k j : ℕ) → k < 8 → j < 16 → getD (getD sums k []) j 0 ≡ keyCell n (standing w n (suc k) t) j
 
 -- where two rounds move the cells of a word: the permutation twice, which keeps the upper half and the lower half apart
 abbrev pub movedOnce : List ℕ → List ℕ

@@ -1,15 +1,19 @@
-// The tweakey, how it goes sixteen rounds on at once, and the keys that the rounds take of it, laid on the round constants.
+// The tweakey, and the keys that the rounds take of it, laid on the round constants.
 // Two rounds step every cell of words 2 and 3 once, and move the cells of a word's upper half and of its lower half among
 // themselves; after sixteen rounds each stands where it stood. So cells are stepped where they stand, and only a key is moved.
-// The room for round keys is `constants::room`.
+// What a key gives to all rounds is worked out once, its share: 49 rows of sixteen cells, a row for each step. From call to call only the
+// tweak's word, the tweakey's last, is stepped. The room for round keys is `constants::room`.
 ghost use mathlib.Core.Path.{_≡_};
-ghost use Prim.Native.Nat.{_+_, _*_, _<_, _≤_};
+ghost use Prim.Native.Nat.{ℕ, _+_, _*_, _<_, _≤_};
 ghost use mathlib.Core.List.{map};
-ghost use lib.ListN.{length, replicate};
-ghost use Rattle.cells.specs.Cells.{Nibble, Byte, Two, Three, LowCells};
+ghost use lib.ListN.{length, getD, replicate};
+ghost use Rattle.cells.specs.Cells.{Nibble, Byte, Two, Three, step2, step3};
 ghost use Rattle.constants.specs.Constants.{Room};
-ghost use Rattle.schedule.specs.Schedule.{keyRow, advance, RoundKeys};
-ghost use Rattle.schedule.specs.Sixteen.{standing, Sums, movedOnce, moved, rowLaid, pairLaid, Laid};
+ghost use Rattle.schedule.specs.declared.Tweakey.{Tweakey};
+ghost use Rattle.schedule.specs.Schedule.{xorRow, RoundKeys};
+ghost use Rattle.schedule.specs.Sixteen.{movedOnce, moved, rowLaid, pairLaid};
+ghost use Rattle.schedule.specs.Share.{Summed, Turn, Parts, LastChanged};
+ghost use Rattle.schedule.specs.Change.{cellLaid, CellOn};
 
 // The tweakey: room for three words of sixteen cells, one after the other, and the number of rounds that it has served.
 pub struct Tweakey {
@@ -17,35 +21,50 @@ pub struct Tweakey {
     pub at: usize,
 }
 
+// What moves from turn to turn: the cells of the tweak's word, and the round at which they stand.
+pub struct Moving {
+    pub cells: [u8; 16],
+    pub at: usize,
+}
+
 // ---- sixteen rounds on
 
-// The cells of words 2 and 3 of 64-192 stepped eight times where they stand; after each step, the words xored are a row of sums. (One loop
-// over the cells with all steps inside: so the compiler works sixteen at once.)
-fn eight_steps_64_192(sums: &mut [[u8; 16]; 8], t: [u8; 48]) -> [u8; 48]
-    requires { ⌜ map length (now sums) ≡ replicate 8 16 ⌝ }
-    ensures { λ r. ⌜ (r ≡ standing Nibble Three 8 t) × Sums Nibble Three t (now (sums .exit)) ⌝ }
+// The tweak's cells of 64-192 stepped eight times where they stand; after each step, they and a row of the key's share, xored, are a row
+// of sums. (One loop over the cells with all steps inside: so the compiler works sixteen at once.)
+fn eight_steps_64_192(
+    sums: &mut [[u8; 16]; 8],
+    share: &[u8; 784],
+    row: usize,
+    t: [u8; 16],
+) -> [u8; 16]
+    requires { ⌜ (row < 42) × (map length (now sums) ≡ replicate 8 16) ⌝ }
+    ensures { λ r. ⌜ Summed (step3 Nibble) row (now (share .entry)) t r (now (sums .exit)) ⌝ }
 {
     let mut c = t;
     for j in 0..16 {
         for k in 0..8 {
-            c[16 + j] = cells::left_nibble(c[16 + j]);
-            c[32 + j] = cells::right_nibble(c[32 + j]);
-            sums[k][j] = c[j] ^ c[16 + j] ^ c[32 + j];
+            c[j] = cells::right_nibble(c[j]);
+            sums[k][j] = share[16 * (row + k) + j] ^ c[j];
         }
     }
     c
 }
 
 // The same for 128-256.
-fn eight_steps_128_256(sums: &mut [[u8; 16]; 8], t: [u8; 48]) -> [u8; 48]
-    requires { ⌜ map length (now sums) ≡ replicate 8 16 ⌝ }
-    ensures { λ r. ⌜ (r ≡ standing Byte Two 8 t) × Sums Byte Two t (now (sums .exit)) ⌝ }
+fn eight_steps_128_256(
+    sums: &mut [[u8; 16]; 8],
+    share: &[u8; 784],
+    row: usize,
+    t: [u8; 16],
+) -> [u8; 16]
+    requires { ⌜ (row < 42) × (map length (now sums) ≡ replicate 8 16) ⌝ }
+    ensures { λ r. ⌜ Summed (step2 Byte) row (now (share .entry)) t r (now (sums .exit)) ⌝ }
 {
     let mut c = t;
     for j in 0..16 {
         for k in 0..8 {
-            c[16 + j] = cells::left_byte(c[16 + j]);
-            sums[k][j] = c[j] ^ c[16 + j];
+            c[j] = cells::left_byte(c[j]);
+            sums[k][j] = share[16 * (row + k) + j] ^ c[j];
         }
     }
     c
@@ -126,16 +145,16 @@ fn lay_two(keys: &mut [[u8; 8]; 97], at: usize, k: usize, sum: [u8; 16])
     lay_pair(keys, at + 2 * k + 1, moved_by(k + 1, sum));
 }
 
-// The tweakey of 64-192 goes sixteen rounds on, and the keys of these rounds are laid. (Eight calls, here and not in a function for both
-// ciphers, and no loop: so the compiler knows each move and keeps the sums in registers.)
-fn sixteen_on_64_192(keys: &mut [[u8; 8]; 97], t: Tweakey) -> Tweakey
-    requires { ⌜ (t .at < 81) × (length (now keys) ≡ 97) ⌝ }
-    ensures { λ r. ⌜ (r ≡ advance Nibble Three 16 t) × Laid Nibble Three t 16 (now (keys .entry)) (now (keys .exit)) ⌝ }
+// The tweak's cells of 64-192 go sixteen rounds on, and the keys of these rounds are laid. (Eight calls, here and not in a function for
+// both ciphers, and no loop: so the compiler knows each move and keeps the sums in registers.)
+fn sixteen_on_64_192(keys: &mut [[u8; 8]; 97], share: &[u8; 784], u: Moving) -> Moving
+    requires { ⌜ (u .at < 81) × (length (now keys) ≡ 97) ⌝ }
+    ensures { λ r. ⌜ Turn Nibble Three (now (share .entry)) u r (now (keys .entry)) (now (keys .exit)) ⌝ }
 {
     let mut sums = [[0u8; 16]; 8];
-    let c = t.cells;
-    let d = eight_steps_64_192(&mut sums, c);
-    let at = t.at;
+    let at = u.at;
+    let c = u.cells;
+    let d = eight_steps_64_192(&mut sums, share, at / 2 + 1, c);
     lay_two(keys, at, 0, sums[0]);
     lay_two(keys, at, 1, sums[1]);
     lay_two(keys, at, 2, sums[2]);
@@ -144,21 +163,21 @@ fn sixteen_on_64_192(keys: &mut [[u8; 8]; 97], t: Tweakey) -> Tweakey
     lay_two(keys, at, 5, sums[5]);
     lay_two(keys, at, 6, sums[6]);
     lay_two(keys, at, 7, sums[7]);
-    Tweakey {
+    Moving {
         cells: d,
         at: at + 16,
     }
 }
 
-// The tweakey of 128-256 goes sixteen rounds on, and the keys of these rounds are laid.
-fn sixteen_on_128_256(keys: &mut [[u8; 8]; 97], t: Tweakey) -> Tweakey
-    requires { ⌜ (t .at < 81) × (length (now keys) ≡ 97) ⌝ }
-    ensures { λ r. ⌜ (r ≡ advance Byte Two 16 t) × Laid Byte Two t 16 (now (keys .entry)) (now (keys .exit)) ⌝ }
+// The tweak's cells of 128-256 go sixteen rounds on, and the keys of these rounds are laid.
+fn sixteen_on_128_256(keys: &mut [[u8; 8]; 97], share: &[u8; 784], u: Moving) -> Moving
+    requires { ⌜ (u .at < 81) × (length (now keys) ≡ 97) ⌝ }
+    ensures { λ r. ⌜ Turn Byte Two (now (share .entry)) u r (now (keys .entry)) (now (keys .exit)) ⌝ }
 {
     let mut sums = [[0u8; 16]; 8];
-    let c = t.cells;
-    let d = eight_steps_128_256(&mut sums, c);
-    let at = t.at;
+    let at = u.at;
+    let c = u.cells;
+    let d = eight_steps_128_256(&mut sums, share, at / 2 + 1, c);
     lay_two(keys, at, 0, sums[0]);
     lay_two(keys, at, 1, sums[1]);
     lay_two(keys, at, 2, sums[2]);
@@ -167,70 +186,122 @@ fn sixteen_on_128_256(keys: &mut [[u8; 8]; 97], t: Tweakey) -> Tweakey
     lay_two(keys, at, 5, sums[5]);
     lay_two(keys, at, 6, sums[6]);
     lay_two(keys, at, 7, sums[7]);
-    Tweakey {
+    Moving {
         cells: d,
         at: at + 16,
     }
 }
 
-// The key of the first round of 64-192.
-fn lay_first_64_192(keys: &mut [[u8; 8]; 97], c: [u8; 48])
-    ensures { λ r. ⌜ now (keys .exit) ≡ rowLaid 0 (keyRow Three c) (now (keys .entry)) ⌝ }
+// The key of the first round: the share's first row, and the tweak's cells.
+fn lay_first(keys: &mut [[u8; 8]; 97], share: &[u8; 784], tweak: [u8; 16])
+    ensures { λ r. ⌜ now (keys .exit) ≡ rowLaid 0 (xorRow (now (share .entry)) tweak) (now (keys .entry)) ⌝ }
 {
     let k = keys[0];
     keys[0] = [
-        k[0] ^ (c[0] ^ c[16] ^ c[32]),
-        k[1] ^ (c[1] ^ c[17] ^ c[33]),
-        k[2] ^ (c[2] ^ c[18] ^ c[34]),
-        k[3] ^ (c[3] ^ c[19] ^ c[35]),
-        k[4] ^ (c[4] ^ c[20] ^ c[36]),
-        k[5] ^ (c[5] ^ c[21] ^ c[37]),
-        k[6] ^ (c[6] ^ c[22] ^ c[38]),
-        k[7] ^ (c[7] ^ c[23] ^ c[39]),
+        k[0] ^ (share[0] ^ tweak[0]),
+        k[1] ^ (share[1] ^ tweak[1]),
+        k[2] ^ (share[2] ^ tweak[2]),
+        k[3] ^ (share[3] ^ tweak[3]),
+        k[4] ^ (share[4] ^ tweak[4]),
+        k[5] ^ (share[5] ^ tweak[5]),
+        k[6] ^ (share[6] ^ tweak[6]),
+        k[7] ^ (share[7] ^ tweak[7]),
     ];
 }
 
-// The key of the first round of 128-256.
-fn lay_first_128_256(keys: &mut [[u8; 8]; 97], c: [u8; 48])
-    ensures { λ r. ⌜ now (keys .exit) ≡ rowLaid 0 (keyRow Two c) (now (keys .entry)) ⌝ }
+// The keys of the first m rounds of 64-192, and of fewer than sixteen more: from the key's share and the tweak's cells.
+pub fn lay_keys_64_192(keys: &mut [[u8; 8]; 97], m: usize, share: &[u8; 784], tweak: [u8; 16])
+    requires { ⌜ (m ≤ 87) × Room (now keys) ⌝ }
+    ensures { λ r. ⌜ (length (now (keys .exit)) ≡ 97) × ((t : Tweakey) → Parts Nibble Three t (now (share .entry)) tweak → RoundKeys Nibble Three m t (now (keys .exit))) ⌝ }
 {
-    let k = keys[0];
-    keys[0] = [
-        k[0] ^ (c[0] ^ c[16]),
-        k[1] ^ (c[1] ^ c[17]),
-        k[2] ^ (c[2] ^ c[18]),
-        k[3] ^ (c[3] ^ c[19]),
-        k[4] ^ (c[4] ^ c[20]),
-        k[5] ^ (c[5] ^ c[21]),
-        k[6] ^ (c[6] ^ c[22]),
-        k[7] ^ (c[7] ^ c[23]),
-    ];
-}
-
-// The keys of the first m rounds of 64-192, and of fewer than sixteen more.
-pub fn lay_keys_64_192(keys: &mut [[u8; 8]; 97], m: usize, t: Tweakey)
-    requires { ⌜ (m ≤ 87) × (t .at ≡ 0) × LowCells Nibble (t .cells) × Room (now keys) ⌝ }
-    ensures { λ r. ⌜ RoundKeys Nibble Three m t (now (keys .exit)) ⌝ }
-{
-    let mut u = t;
+    let mut u = Moving {
+        cells: tweak,
+        at: 0,
+    };
     while u.at + 1 < m {
-        let v = sixteen_on_64_192(keys, u);
+        let v = sixteen_on_64_192(keys, share, u);
         u = v;
     }
-    let c = t.cells;
-    lay_first_64_192(keys, c);
+    lay_first(keys, share, tweak);
 }
 
-// The keys of the first m rounds of 128-256, and of fewer than sixteen more.
-pub fn lay_keys_128_256(keys: &mut [[u8; 8]; 97], m: usize, t: Tweakey)
-    requires { ⌜ (m ≤ 87) × (t .at ≡ 0) × LowCells Byte (t .cells) × Room (now keys) ⌝ }
-    ensures { λ r. ⌜ RoundKeys Byte Two m t (now (keys .exit)) ⌝ }
+// The keys of the first m rounds of 128-256, and of fewer than sixteen more: from the key's share and the tweak's cells.
+pub fn lay_keys_128_256(keys: &mut [[u8; 8]; 97], m: usize, share: &[u8; 784], tweak: [u8; 16])
+    requires { ⌜ (m ≤ 87) × Room (now keys) ⌝ }
+    ensures { λ r. ⌜ (length (now (keys .exit)) ≡ 97) × ((t : Tweakey) → Parts Byte Two t (now (share .entry)) tweak → RoundKeys Byte Two m t (now (keys .exit))) ⌝ }
 {
-    let mut u = t;
+    let mut u = Moving {
+        cells: tweak,
+        at: 0,
+    };
     while u.at + 1 < m {
-        let v = sixteen_on_128_256(keys, u);
+        let v = sixteen_on_128_256(keys, share, u);
         u = v;
     }
-    let c = t.cells;
-    lay_first_128_256(keys, c);
+    lay_first(keys, share, tweak);
+}
+
+// ---- one changed byte of the tweak
+
+// A cell of a round's key changes by x.
+fn lay_cell(keys: &mut [[u8; 8]; 97], i: usize, p: usize, x: u8)
+    requires { ⌜ (i < 97) × (p < 8) ⌝ }
+    ensures { λ r. ⌜ now (keys .exit) ≡ cellLaid i p x (now (keys .entry)) ⌝ }
+{
+    keys[i][p] = keys[i][p] ^ x;
+}
+
+// Turn i of sixteen rounds of 64-192: the change x of a cell of the tweak goes on, and the keys of the odd rounds are corrected at its
+// places.
+fn cell_on_64_192(keys: &mut [[u8; 8]; 97], i: usize, places: [usize; 8], x: u8) -> u8
+    requires { ⌜ (i < 6) × (length (now keys) ≡ 97) × ((k : ℕ) → k < 8 → getD places k 0 < 8) ⌝ }
+    ensures { λ r. ⌜ CellOn (step3 Nibble) places i 8 x (now (keys .entry)) r (now (keys .exit)) ⌝ }
+{
+    let mut y = x;
+    for k in 0..8 {
+        y = cells::right_nibble(y);
+        lay_cell(keys, 16 * i + 2 * k + 1, places[k], y);
+    }
+    y
+}
+
+// The same for 128-256.
+fn cell_on_128_256(keys: &mut [[u8; 8]; 97], i: usize, places: [usize; 8], x: u8) -> u8
+    requires { ⌜ (i < 6) × (length (now keys) ≡ 97) × ((k : ℕ) → k < 8 → getD places k 0 < 8) ⌝ }
+    ensures { λ r. ⌜ CellOn (step2 Byte) places i 8 x (now (keys .entry)) r (now (keys .exit)) ⌝ }
+{
+    let mut y = x;
+    for k in 0..8 {
+        y = cells::left_byte(y);
+        lay_cell(keys, 16 * i + 2 * k + 1, places[k], y);
+    }
+    y
+}
+
+// The keys of the first m rounds of 64-192, and of fewer than sixteen more, for a tweak whose last byte changed by d.
+pub fn change_last_64_192(keys: &mut [[u8; 8]; 97], m: usize, d: u8)
+    requires { ⌜ (m ≤ 87) × (length (now keys) ≡ 97) ⌝ }
+    ensures { λ r. ⌜ (length (now (keys .exit)) ≡ 97) × ((t u : Tweakey) → LastChanged Nibble Three d t u → RoundKeys Nibble Three m t (now (keys .entry)) → RoundKeys Nibble Three m u (now (keys .exit))) ⌝ }
+{
+    let mut x = d / 16;
+    let mut y = d % 16;
+    let mut i: usize = 0;
+    while 16 * i + 1 < m {
+        x = cell_on_64_192(keys, i, [5, 3, 7, 1, 0, 2, 4, 6], x);
+        y = cell_on_64_192(keys, i, [1, 0, 2, 4, 6, 5, 3, 7], y);
+        i = i + 1;
+    }
+}
+
+// The same for 128-256.
+pub fn change_last_128_256(keys: &mut [[u8; 8]; 97], m: usize, d: u8)
+    requires { ⌜ (m ≤ 87) × (length (now keys) ≡ 97) ⌝ }
+    ensures { λ r. ⌜ (length (now (keys .exit)) ≡ 97) × ((t u : Tweakey) → LastChanged Byte Two d t u → RoundKeys Byte Two m t (now (keys .entry)) → RoundKeys Byte Two m u (now (keys .exit))) ⌝ }
+{
+    let mut x = d;
+    let mut i: usize = 0;
+    while 16 * i + 1 < m {
+        x = cell_on_128_256(keys, i, [1, 0, 2, 4, 6, 5, 3, 7], x);
+        i = i + 1;
+    }
 }

@@ -1,18 +1,25 @@
 -- What the calls answer under a scheme, from what their callees answered: refused by a check, done, or forged. Assumes nothing.
 use mathlib.Core.Path.{_≡_, sym, ap, _∙_}
+use mathlib.Core.Logic.{_≢_}
 use mathlib.Core.Bool.{Bool, true, false, cond}
-use mathlib.Core.List.{List, _++_, append-nil}
+use mathlib.Core.List.{List, [], _++_, append-nil}
 use Prim.Native.Nat.{ℕ, _+_, _-_}
 use native.Mathlib.Omega.{arith}
 use lib.Dec.{ltb}
 use lib.ListN.{length, take, drop, replicate}
 use lib.Seq.{take-all, drop-at}
-use borrow.Author.Tests.{ltb-false}
+use borrow.Author.Tests.{ltb-false, ne-eqb}
+use Rattle.ciphers.specs.declared.Cipher.{Cipher}
 use Rattle.ciphers.specs.Ciphers.{blockOf}
+use Rattle.prepared.specs.declared.Prepared.{Prepared}
+use Rattle.prepared.specs.Prepared.{keyIn, keyOf, admitted}
+use Rattle.prepared.proofs.Found.{key-block}
+use Rattle.prepared.proofs.Admitted.{key-none}
 use Rattle.modes.specs.Mode.{Opened}
 use Rattle.steps.specs.Modes.{roundsOf}
 use Rattle.walks.specs.Walks.{RecordSealed, RecordOpened}
 use Rattle.sealing.specs.declared.schemes.Scheme.{Scheme}
+use Rattle.sealing.specs.Schemes.{Fits}
 use Rattle.sealing.specs.Checks.{checkOf}
 use Rattle.sealing.specs.Calls.{Told, refused, done, forged, judged, passed, sealed, opened, sealRounds, openRounds, sealUnder, openUnder}
 use Rattle.sealing.proofs.Passed.{check-long, not-passed}
@@ -28,6 +35,32 @@ told-passed k k′ t room e z = sym (ap (λ (j : ℕ). passed j t room) (sym e �
 -- the key as `front` made it
 pub key-same : (key K : List ℕ) → length key ≡ 16 → K ≡ take 16 key ++ replicate (16 - 16) 0 → K ≡ key
 key-same key K l e = e ∙ ap (λ (x : List ℕ). x ++ replicate (16 - 16) 0) (take-all 16 key (omega (arith, l))) ∙ append-nil key
+
+-- the checks see the length of the key that a share was made of
+pub key-length
+    : (s : Scheme) (share : List ℕ) (nonce header body : ℕ) (short : Bool) (more room number : ℕ) → Fits s → number ≡ checkOf s (s .key) nonce header body short more room
+    → number ≡ checkOf s (length (keyIn (s .cipher) share)) nonce header body short more room
+key-length s share nonce header body short more room number f e =
+    e ∙ ap (λ (m : ℕ). checkOf s m nonce header body short more room) (f .key ∙ sym (key-block (s .cipher) share .long))
+
+-- a key of another length is refused before all else but the scheme
+module _ (s : Scheme) (key nonce header input room : List ℕ) (h : length key ≢ s .key) where
+  pub seal-no-key : refused 2 room ≡ sealUnder s key nonce header input room
+  unfolding sealUnder checkOf
+  seal-no-key = simp (ne-eqb (length key) (s .key) h)
+
+  pub open-no-key : refused 2 room ≡ openUnder s key nonce header input room
+  unfolding openUnder checkOf
+  open-no-key = simp (ne-eqb (length key) (s .key) h)
+
+-- an admitted record stands for the key that its share was made of
+pub key-if : (c : Cipher) (r : Prepared) → admitted c r ≡ true → keyOf c r ≡ keyIn c (r .share)
+unfolding keyOf
+key-if c r e = ap (λ (t : Bool). cond t (keyIn c (r .share)) []) e
+
+-- one that is not admitted stands for none, and is refused as a key of another length is
+pub no-record : (s : Scheme) (r : Prepared) → Fits s → admitted (s .cipher) r ≡ false → length (keyOf (s .cipher) r) ≢ s .key
+no-record s r f e q = absurd (omega (arith, q, f .key, ap length (key-none (s .cipher) r e)))
 
 module _ (s : Scheme) (key nonce header : List ℕ) (N : ℕ) (size : N ≡ blockOf (s .cipher)) (number : ℕ) where
   abbrev n : ℕ

@@ -7,6 +7,7 @@ pub mod Exactly
 mod First
 pub mod Numbers
 pub mod Passed
+pub mod Prepared
 pub mod Rounds
 mod Said
 mod Sums

@@ -5,6 +5,8 @@ use mathlib.Core.Bool.{cond}
 use mathlib.Core.List.{List, _++_}
 use lib.ListN.{length, drop, replicate}
 use Rattle.ciphers.specs.Ciphers.{blockOf}
+use Rattle.prepared.specs.declared.Prepared.{Prepared}
+use Rattle.prepared.specs.Prepared.{keyOf}
 use Rattle.modes.specs.Mode.{Opened, sealRun, openRun}
 use Rattle.modes.specs.Rounds.{sealCalls, openCalls, total}
 use Rattle.steps.specs.Modes.{modeOf}
@@ -92,3 +94,11 @@ sealOf scheme key nonce header body room = under (schemeOf scheme) (λ s. sealUn
 
 unfoldable pub openOf : ℕ → (key nonce header run room : List ℕ) → Told
 openOf scheme key nonce header run room = under (schemeOf scheme) (λ s. openUnder s key nonce header run room) room
+
+-- ---- with a prepared key (C-16): the answers are those of the key that the record was made of, and of none where it is not admitted, which is 2
+
+unfoldable pub sealWith : ℕ → Prepared → (nonce header body room : List ℕ) → Told
+sealWith scheme r nonce header body room = under (schemeOf scheme) (λ s. sealUnder s (keyOf (s .cipher) r) nonce header body room) room
+
+unfoldable pub openWith : ℕ → Prepared → (nonce header run room : List ℕ) → Told
+openWith scheme r nonce header run room = under (schemeOf scheme) (λ s. openUnder s (keyOf (s .cipher) r) nonce header run room) room

@@ -5,6 +5,9 @@ pub mod schemes;
 use blocks::clear;
 use blocks::front;
 use checks::check;
+use prepared::Prepared;
+use prepared::judge;
+use prepared::share_of;
 use schemes::Named;
 use schemes::Scheme;
 use schemes::scheme_of;
@@ -12,9 +15,10 @@ use walks::counting;
 use walks::records;
 ghost use mathlib.Core.Path.{_≡_};
 ghost use Prim.Native.Nat.{_-_};
+ghost use Rattle.prepared.specs.Prepared.{keyIn, keyOf, Made};
 ghost use Rattle.sealing.specs.Schemes.{Fits};
 ghost use Rattle.sealing.specs.Budget.{budgetUnder, budgetOf};
-ghost use Rattle.sealing.specs.Calls.{told, sealUnder, openUnder, sealOf, openOf};
+ghost use Rattle.sealing.specs.Calls.{told, sealUnder, openUnder, sealOf, openOf, sealWith, openWith};
 ghost use Rattle.sealing.specs.View.{viewOf};
 
 // What a caller is told: the number, the length of what stands at the front of the room, and the rounds that were run.
@@ -26,21 +30,21 @@ pub struct Answer {
 
 fn seal_under(
     s: Scheme,
-    key: &[u8],
+    share: &[u8; 784],
     nonce: &[u8],
     header: &[u8],
     body: &[u8],
     room: &mut [u8],
 ) -> Answer
-    requires { ⌜ Fits s ⌝ }
-    ensures { λ r. ⌜ told r (now (room .exit)) ≡ sealUnder s (now (key .entry)) (now (nonce .entry)) (now (header .entry)) (now (body .entry)) (now (room .entry)) ⌝ }
+    requires { ⌜ Fits s × Made (s .cipher) (now share) ⌝ }
+    ensures { λ r. ⌜ told r (now (room .exit)) ≡ sealUnder s (keyIn (s .cipher) (now (share .entry))) (now (nonce .entry)) (now (header .entry)) (now (body .entry)) (now (room .entry)) ⌝ }
 {
     let c = s.cipher;
     let k = s.kind;
     let n = ciphers::block_of(c);
     let number = check(
         s,
-        key.len(),
+        s.key,
         nonce.len(),
         header.len(),
         body.len(),
@@ -56,7 +60,7 @@ fn seal_under(
         };
     }
     let rounds = counting::rounds(c, k, header.len(), body.len());
-    records::seal(c, k, front(key, 16), nonce, header, body, room);
+    records::seal(c, k, share, nonce, header, body, room);
     Answer {
         number: 0,
         length: body.len() + n,
@@ -64,9 +68,78 @@ fn seal_under(
     }
 }
 
-// Seals a body: the sealed run, a block longer, at the front of the room. Refused, in this order, with 1 (scheme), 2 (key length), 7
-// (nonce length), 3 (header too long), 8 (body too long) or 5 (room too short), the room unchanged.
+fn seal_of_key(
+    s: Scheme,
+    key: &[u8],
+    nonce: &[u8],
+    header: &[u8],
+    body: &[u8],
+    room: &mut [u8],
+) -> Answer
+    requires { ⌜ Fits s ⌝ }
+    ensures { λ r. ⌜ told r (now (room .exit)) ≡ sealUnder s (now (key .entry)) (now (nonce .entry)) (now (header .entry)) (now (body .entry)) (now (room .entry)) ⌝ }
+{
+    if key.len() != s.key {
+        return Answer {
+            number: 2,
+            length: 0,
+            rounds: 0,
+        };
+    }
+    let c = s.cipher;
+    let share = share_of(c, front(key, 16));
+    seal_under(s, &share, nonce, header, body, room)
+}
+
+fn seal_with(
+    s: Scheme,
+    key: Prepared,
+    nonce: &[u8],
+    header: &[u8],
+    body: &[u8],
+    room: &mut [u8],
+) -> Answer
+    requires { ⌜ Fits s ⌝ }
+    ensures { λ r. ⌜ told r (now (room .exit)) ≡ sealUnder s (keyOf (s .cipher) key) (now (nonce .entry)) (now (header .entry)) (now (body .entry)) (now (room .entry)) ⌝ }
+{
+    let c = s.cipher;
+    if judge(c, key) {
+        let share = key.share;
+        return seal_under(s, &share, nonce, header, body, room);
+    }
+    Answer {
+        number: 2,
+        length: 0,
+        rounds: 0,
+    }
+}
+
+// Seals a body with a prepared key: the sealed run, a block longer, at the front of the room. Refused, in this order, with 1 (scheme), 2 (no
+// key of the scheme's cipher gives this record), 7 (nonce length), 3 (header too long), 8 (body too long) or 5 (room too short), the room
+// unchanged.
 pub fn seal(
+    scheme: u32,
+    key: Prepared,
+    nonce: &[u8],
+    header: &[u8],
+    body: &[u8],
+    room: &mut [u8],
+) -> Answer
+    ensures { λ r. ⌜ told r (now (room .exit)) ≡ sealWith scheme key (now (nonce .entry)) (now (header .entry)) (now (body .entry)) (now (room .entry)) ⌝ }
+{
+    let named = scheme_of(scheme);
+    match named {
+        Named::Known(s) => seal_with(s, key, nonce, header, body, room),
+        Named::Unknown => Answer {
+            number: 1,
+            length: 0,
+            rounds: 0,
+        },
+    }
+}
+
+// The same with a key, for callers that have no prepared one: 2 says that it is not of the scheme's length.
+pub fn seal_by_key(
     scheme: u32,
     key: &[u8],
     nonce: &[u8],
@@ -78,7 +151,7 @@ pub fn seal(
 {
     let named = scheme_of(scheme);
     match named {
-        Named::Known(s) => seal_under(s, key, nonce, header, body, room),
+        Named::Known(s) => seal_of_key(s, key, nonce, header, body, room),
         Named::Unknown => Answer {
             number: 1,
             length: 0,
@@ -99,30 +172,21 @@ fn body_of(run: usize, n: usize) -> usize
 
 fn open_under(
     s: Scheme,
-    key: &[u8],
+    share: &[u8; 784],
     nonce: &[u8],
     header: &[u8],
     sealed: &[u8],
     room: &mut [u8],
 ) -> Answer
-    requires { ⌜ Fits s ⌝ }
-    ensures { λ r. ⌜ told r (now (room .exit)) ≡ openUnder s (now (key .entry)) (now (nonce .entry)) (now (header .entry)) (now (sealed .entry)) (now (room .entry)) ⌝ }
+    requires { ⌜ Fits s × Made (s .cipher) (now share) ⌝ }
+    ensures { λ r. ⌜ told r (now (room .exit)) ≡ openUnder s (keyIn (s .cipher) (now (share .entry))) (now (nonce .entry)) (now (header .entry)) (now (sealed .entry)) (now (room .entry)) ⌝ }
 {
     let c = s.cipher;
     let k = s.kind;
     let n = ciphers::block_of(c);
     let l = body_of(sealed.len(), n);
     let short = sealed.len() < n;
-    let number = check(
-        s,
-        key.len(),
-        nonce.len(),
-        header.len(),
-        l,
-        short,
-        0,
-        room.len(),
-    );
+    let number = check(s, s.key, nonce.len(), header.len(), l, short, 0, room.len());
     if number != 0 {
         return Answer {
             number,
@@ -131,7 +195,7 @@ fn open_under(
         };
     }
     let rounds = counting::rounds(c, k, header.len(), l);
-    if records::open(c, k, front(key, 16), nonce, header, sealed, room) {
+    if records::open(c, k, share, nonce, header, sealed, room) {
         return Answer {
             number: 0,
             length: l,
@@ -146,9 +210,77 @@ fn open_under(
     }
 }
 
-// Opens a sealed run: its body, a block shorter, at the front of the room. Refused, in this order, with 1, 2, 7, 3, 8, 4 (run shorter
-// than a block) or 5, the room unchanged, or with 6 (not authentic), zeros where the body would have been.
+fn open_of_key(
+    s: Scheme,
+    key: &[u8],
+    nonce: &[u8],
+    header: &[u8],
+    sealed: &[u8],
+    room: &mut [u8],
+) -> Answer
+    requires { ⌜ Fits s ⌝ }
+    ensures { λ r. ⌜ told r (now (room .exit)) ≡ openUnder s (now (key .entry)) (now (nonce .entry)) (now (header .entry)) (now (sealed .entry)) (now (room .entry)) ⌝ }
+{
+    if key.len() != s.key {
+        return Answer {
+            number: 2,
+            length: 0,
+            rounds: 0,
+        };
+    }
+    let c = s.cipher;
+    let share = share_of(c, front(key, 16));
+    open_under(s, &share, nonce, header, sealed, room)
+}
+
+fn open_with(
+    s: Scheme,
+    key: Prepared,
+    nonce: &[u8],
+    header: &[u8],
+    sealed: &[u8],
+    room: &mut [u8],
+) -> Answer
+    requires { ⌜ Fits s ⌝ }
+    ensures { λ r. ⌜ told r (now (room .exit)) ≡ openUnder s (keyOf (s .cipher) key) (now (nonce .entry)) (now (header .entry)) (now (sealed .entry)) (now (room .entry)) ⌝ }
+{
+    let c = s.cipher;
+    if judge(c, key) {
+        let share = key.share;
+        return open_under(s, &share, nonce, header, sealed, room);
+    }
+    Answer {
+        number: 2,
+        length: 0,
+        rounds: 0,
+    }
+}
+
+// Opens a sealed run with a prepared key: its body, a block shorter, at the front of the room. Refused, in this order, with 1, 2, 7, 3, 8, 4
+// (run shorter than a block) or 5, the room unchanged, or with 6 (not authentic), zeros where the body would have been.
 pub fn open(
+    scheme: u32,
+    key: Prepared,
+    nonce: &[u8],
+    header: &[u8],
+    sealed: &[u8],
+    room: &mut [u8],
+) -> Answer
+    ensures { λ r. ⌜ told r (now (room .exit)) ≡ openWith scheme key (now (nonce .entry)) (now (header .entry)) (now (sealed .entry)) (now (room .entry)) ⌝ }
+{
+    let named = scheme_of(scheme);
+    match named {
+        Named::Known(s) => open_with(s, key, nonce, header, sealed, room),
+        Named::Unknown => Answer {
+            number: 1,
+            length: 0,
+            rounds: 0,
+        },
+    }
+}
+
+// The same with a key, for callers that have no prepared one: 2 says that it is not of the scheme's length.
+pub fn open_by_key(
     scheme: u32,
     key: &[u8],
     nonce: &[u8],
@@ -160,7 +292,7 @@ pub fn open(
 {
     let named = scheme_of(scheme);
     match named {
-        Named::Known(s) => open_under(s, key, nonce, header, sealed, room),
+        Named::Known(s) => open_of_key(s, key, nonce, header, sealed, room),
         Named::Unknown => Answer {
             number: 1,
             length: 0,

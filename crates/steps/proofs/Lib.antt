@@ -1,4 +1,5 @@
 pub mod Laws
+mod Lending
 mod PaefSteps
 mod SaefSteps
 mod Skinny

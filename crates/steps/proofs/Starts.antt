@@ -7,6 +7,7 @@ use lib.ListN.{take, replicate}
 use Rattle.ciphers.specs.declared.Cipher.{Cipher}
 use Rattle.ciphers.specs.declared.Cipher.the-variants.{N64T192, N128T256}
 use Rattle.ciphers.specs.Ciphers.{blockOf}
+use Rattle.kept.specs.declared.Kept.{Kept}
 use Rattle.modes.specs.Paef.{paef}
 use Rattle.modes.specs.Saef.{saef}
 use Rattle.steps.specs.declared.Kind.{Kind}
@@ -14,13 +15,13 @@ use Rattle.steps.specs.declared.Kind.the-variants.{Paef, Saef}
 use Rattle.steps.specs.declared.State.{State}
 use Rattle.steps.specs.Modes.{modeOf, stateOf}
 
-pub start-is : (k : Kind) (c : Cipher) (key nonce : List ℕ)
-    → stateOf k (blockOf c) (record { mask = replicate 16 0; number = 1; first = true }) ≡ modeOf k c key nonce .start
+pub start-is : (k : Kind) (c : Cipher) (key nonce : List ℕ) (kept : Kept)
+    → stateOf k (blockOf c) (record { mask = replicate 16 0; number = 1; first = true; kept = kept }) ≡ modeOf k c key nonce .start
 unfolding paef saef
-start-is Paef N64T192 key nonce = refl
-start-is Paef N128T256 key nonce = refl
-start-is Saef N64T192 key nonce = refl
-start-is Saef N128T256 key nonce = refl
+start-is Paef N64T192 key nonce kept = refl
+start-is Paef N128T256 key nonce kept = refl
+start-is Saef N64T192 key nonce kept = refl
+start-is Saef N128T256 key nonce kept = refl
 
 pub alone-is : (k : Kind) (c : Cipher) (key nonce : List ℕ) (s : State)
     → take (blockOf c) (s .mask) ≡ modeOf k c key nonce .alone (stateOf k (blockOf c) s)

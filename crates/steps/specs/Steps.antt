@@ -30,15 +30,15 @@ pub record Paired (k : Kind) (n : ℕ) (f g : Carried k → List ℕ → List �
 unfoldable pub addedOf : State → Pair → Step
 addedOf s p = record {
   out = p .first;
-  next = record { mask = s .mask ⊕ p .second; number = s .number + 1; first = false };
+  next = record { mask = s .mask ⊕ p .second; number = s .number + 1; first = false; kept = p .kept };
 }
 
 -- ---- SAEF: Δ comes off the block that is given, and the second one is the next Δ
 unfoldable pub unmaskedOf : State → Pair → Pair
-unmaskedOf s p = record { first = p .first ⊕ s .mask; second = p .second }
+unmaskedOf s p = record { first = p .first ⊕ s .mask; second = p .second; kept = p .kept }
 
 unfoldable pub movedOf : State → Pair → Step
 movedOf s p = record {
   out = p .first ⊕ s .mask;
-  next = record { mask = p .second; number = s .number; first = false };
+  next = record { mask = p .second; number = s .number; first = false; kept = p .kept };
 }

@@ -4,10 +4,13 @@ pub mod paef;
 pub mod saef;
 
 use ciphers::Cipher;
+use kept::Kept;
 ghost use mathlib.Core.Path.{_≡_};
 ghost use Prim.Native.Nat.{_+_, _≤_};
 ghost use lib.ListN.{length, take};
 ghost use Rattle.ciphers.specs.Ciphers.{blockOf};
+ghost use Rattle.prepared.specs.Prepared.{keyIn};
+ghost use Rattle.kept.specs.Kept.{nothing, Lent};
 ghost use Rattle.steps.specs.Modes.{modeOf, tailOf, stateOf, pricesOf};
 ghost use Rattle.steps.specs.Steps.{Stepped, Paired};
 
@@ -17,11 +20,19 @@ pub enum Kind {
     Saef,
 }
 
-// What goes from block to block: S or Delta, the number of the next block (PAEF), whether no block was worked yet (SAEF).
+// What goes from block to block: S or Delta, the number of the next block (PAEF), whether no block was worked yet (SAEF), and what the room for
+// round keys holds.
 pub struct State {
     pub mask: [u8; 16],
     pub number: usize,
     pub first: bool,
+    pub kept: Kept,
+}
+
+// What a header block leaves: S or Delta, and the round keys.
+pub struct Left {
+    pub mask: [u8; 16],
+    pub kept: Kept,
 }
 
 // A block's output, and what goes on.
@@ -30,10 +41,11 @@ pub struct Step {
     pub next: State,
 }
 
-// Two blocks: of a last block, the one that is given whole, and the one of which leading bytes are given.
+// Two blocks: of a last block, the one that is given whole, and the one of which leading bytes are given; and the round keys.
 pub struct Pair {
     pub first: [u8; 16],
     pub second: [u8; 16],
+    pub kept: Kept,
 }
 
 // The rounds of a header block, of a body block that is not the last, and of the last one.
@@ -64,24 +76,33 @@ pub fn prices_of(c: Cipher, k: Kind) -> Prices
 }
 
 // Before the header.
-pub fn start(c: Cipher, k: Kind, key: [u8; 16], nonce: &[u8]) -> State
-    ensures { λ r. ⌜ (stateOf k (blockOf c) r ≡ (modeOf k c key (now (nonce .entry))) .start) × (r .number ≤ 1) ⌝ }
+pub fn start(c: Cipher, k: Kind, share: &[u8; 784], nonce: &[u8]) -> State
+    ensures { λ r. ⌜ (stateOf k (blockOf c) r ≡ (modeOf k c (keyIn c (now (share .entry))) (now (nonce .entry))) .start) × (r .number ≤ 1) × (r .kept ≡ nothing) ⌝ }
 {
     State {
         mask: [0u8; 16],
         number: 1,
         first: true,
+        kept: kept::nothing_kept(),
     }
 }
 
 // A header block that is not the last.
-pub fn head(c: Cipher, k: Kind, key: [u8; 16], nonce: &[u8], s: State, x: [u8; 16]) -> State
-    requires { ⌜ (length (now nonce) + tailOf k ≡ blockOf c) × (s .number ≤ 4294967296) ⌝ }
-    ensures { λ r. ⌜ (stateOf k (blockOf c) r ≡ (modeOf k c key (now (nonce .entry))) .head (stateOf k (blockOf c) s) (take (blockOf c) x)) × (r .number ≤ s .number + 1) ⌝ }
+pub fn head(
+    c: Cipher,
+    k: Kind,
+    share: &[u8; 784],
+    nonce: &[u8],
+    keys: &mut [[u8; 8]; 97],
+    s: State,
+    x: [u8; 16],
+) -> State
+    requires { ⌜ (length (now nonce) + tailOf k ≡ blockOf c) × (s .number ≤ 4294967296) × Lent c (now share) (s .kept) (now keys) ⌝ }
+    ensures { λ r. ⌜ (stateOf k (blockOf c) r ≡ (modeOf k c (keyIn c (now (share .entry))) (now (nonce .entry))) .head (stateOf k (blockOf c) s) (take (blockOf c) x)) × (r .number ≤ s .number + 1) × Lent c (now (share .entry)) (r .kept) (now (keys .exit)) ⌝ }
 {
     match k {
-        Kind::Paef => paef::head(c, key, nonce, s, x),
-        Kind::Saef => saef::head(c, key, nonce, s, x),
+        Kind::Paef => paef::head(c, share, nonce, keys, s, x),
+        Kind::Saef => saef::head(c, share, nonce, keys, s, x),
     }
 }
 
@@ -89,37 +110,46 @@ pub fn head(c: Cipher, k: Kind, key: [u8; 16], nonce: &[u8], s: State, x: [u8; 1
 pub fn head_last(
     c: Cipher,
     k: Kind,
-    key: [u8; 16],
+    share: &[u8; 784],
     nonce: &[u8],
+    keys: &mut [[u8; 8]; 97],
     empty: bool,
     full: bool,
     s: State,
     x: [u8; 16],
 ) -> State
-    requires { ⌜ (length (now nonce) + tailOf k ≡ blockOf c) × (s .number ≤ 4294967296) ⌝ }
-    ensures { λ r. ⌜ (stateOf k (blockOf c) r ≡ (modeOf k c key (now (nonce .entry))) .headLast empty full (stateOf k (blockOf c) s) (take (blockOf c) x)) × (r .number ≤ 1) ⌝ }
+    requires { ⌜ (length (now nonce) + tailOf k ≡ blockOf c) × (s .number ≤ 4294967296) × Lent c (now share) (s .kept) (now keys) ⌝ }
+    ensures { λ r. ⌜ (stateOf k (blockOf c) r ≡ (modeOf k c (keyIn c (now (share .entry))) (now (nonce .entry))) .headLast empty full (stateOf k (blockOf c) s) (take (blockOf c) x)) × (r .number ≤ 1) × Lent c (now (share .entry)) (r .kept) (now (keys .exit)) ⌝ }
 {
     match k {
-        Kind::Paef => paef::head_last(c, key, nonce, empty, full, s, x),
-        Kind::Saef => saef::head_last(c, key, nonce, empty, full, s, x),
+        Kind::Paef => paef::head_last(c, share, nonce, keys, empty, full, s, x),
+        Kind::Saef => saef::head_last(c, share, nonce, keys, empty, full, s, x),
     }
 }
 
 // What an empty body is sealed to.
-pub fn alone(c: Cipher, k: Kind, key: [u8; 16], nonce: &[u8], s: State) -> [u8; 16]
-    ensures { λ r. ⌜ take (blockOf c) r ≡ (modeOf k c key (now (nonce .entry))) .alone (stateOf k (blockOf c) s) ⌝ }
+pub fn alone(c: Cipher, k: Kind, share: &[u8; 784], nonce: &[u8], s: State) -> [u8; 16]
+    ensures { λ r. ⌜ take (blockOf c) r ≡ (modeOf k c (keyIn c (now (share .entry))) (now (nonce .entry))) .alone (stateOf k (blockOf c) s) ⌝ }
 {
     s.mask
 }
 
 // A body block that is not the last, sealed.
-pub fn seal_block(c: Cipher, k: Kind, key: [u8; 16], nonce: &[u8], s: State, x: [u8; 16]) -> Step
-    requires { ⌜ (length (now nonce) + tailOf k ≡ blockOf c) × (s .number ≤ 4294967296) ⌝ }
-    ensures { λ r. ⌜ Stepped k (blockOf c) ((modeOf k c key (now (nonce .entry))) .out) ((modeOf k c key (now (nonce .entry))) .next) s x (r .out) (r .next) ⌝ }
+pub fn seal_block(
+    c: Cipher,
+    k: Kind,
+    share: &[u8; 784],
+    nonce: &[u8],
+    keys: &mut [[u8; 8]; 97],
+    s: State,
+    x: [u8; 16],
+) -> Step
+    requires { ⌜ (length (now nonce) + tailOf k ≡ blockOf c) × (s .number ≤ 4294967296) × Lent c (now share) (s .kept) (now keys) ⌝ }
+    ensures { λ r. ⌜ Stepped k (blockOf c) ((modeOf k c (keyIn c (now (share .entry))) (now (nonce .entry))) .out) ((modeOf k c (keyIn c (now (share .entry))) (now (nonce .entry))) .next) s x (r .out) (r .next) × Lent c (now (share .entry)) (r .next .kept) (now (keys .exit)) ⌝ }
 {
     match k {
-        Kind::Paef => paef::seal_block(c, key, nonce, s, x),
-        Kind::Saef => saef::seal_block(c, key, nonce, s, x),
+        Kind::Paef => paef::seal_block(c, share, nonce, keys, s, x),
+        Kind::Saef => saef::seal_block(c, share, nonce, keys, s, x),
     }
 }
 
@@ -127,29 +157,38 @@ pub fn seal_block(c: Cipher, k: Kind, key: [u8; 16], nonce: &[u8], s: State, x: 
 pub fn seal_last(
     c: Cipher,
     k: Kind,
-    key: [u8; 16],
+    share: &[u8; 784],
     nonce: &[u8],
+    keys: &mut [[u8; 8]; 97],
     full: bool,
     s: State,
     x: [u8; 16],
 ) -> Pair
-    requires { ⌜ (length (now nonce) + tailOf k ≡ blockOf c) × (s .number ≤ 4294967296) ⌝ }
-    ensures { λ r. ⌜ Paired k (blockOf c) ((modeOf k c key (now (nonce .entry))) .fin full) ((modeOf k c key (now (nonce .entry))) .tag full) s x (r .first) (r .second) ⌝ }
+    requires { ⌜ (length (now nonce) + tailOf k ≡ blockOf c) × (s .number ≤ 4294967296) × Lent c (now share) (s .kept) (now keys) ⌝ }
+    ensures { λ r. ⌜ Paired k (blockOf c) ((modeOf k c (keyIn c (now (share .entry))) (now (nonce .entry))) .fin full) ((modeOf k c (keyIn c (now (share .entry))) (now (nonce .entry))) .tag full) s x (r .first) (r .second) × Lent c (now (share .entry)) (r .kept) (now (keys .exit)) ⌝ }
 {
     match k {
-        Kind::Paef => paef::seal_last(c, key, nonce, full, s, x),
-        Kind::Saef => saef::seal_last(c, key, nonce, full, s, x),
+        Kind::Paef => paef::seal_last(c, share, nonce, keys, full, s, x),
+        Kind::Saef => saef::seal_last(c, share, nonce, keys, full, s, x),
     }
 }
 
 // A body block that is not the last, opened.
-pub fn open_block(c: Cipher, k: Kind, key: [u8; 16], nonce: &[u8], s: State, x: [u8; 16]) -> Step
-    requires { ⌜ (length (now nonce) + tailOf k ≡ blockOf c) × (s .number ≤ 4294967296) ⌝ }
-    ensures { λ r. ⌜ Stepped k (blockOf c) ((modeOf k c key (now (nonce .entry))) .back) ((modeOf k c key (now (nonce .entry))) .backNext) s x (r .out) (r .next) ⌝ }
+pub fn open_block(
+    c: Cipher,
+    k: Kind,
+    share: &[u8; 784],
+    nonce: &[u8],
+    keys: &mut [[u8; 8]; 97],
+    s: State,
+    x: [u8; 16],
+) -> Step
+    requires { ⌜ (length (now nonce) + tailOf k ≡ blockOf c) × (s .number ≤ 4294967296) × Lent c (now share) (s .kept) (now keys) ⌝ }
+    ensures { λ r. ⌜ Stepped k (blockOf c) ((modeOf k c (keyIn c (now (share .entry))) (now (nonce .entry))) .back) ((modeOf k c (keyIn c (now (share .entry))) (now (nonce .entry))) .backNext) s x (r .out) (r .next) × Lent c (now (share .entry)) (r .next .kept) (now (keys .exit)) ⌝ }
 {
     match k {
-        Kind::Paef => paef::open_block(c, key, nonce, s, x),
-        Kind::Saef => saef::open_block(c, key, nonce, s, x),
+        Kind::Paef => paef::open_block(c, share, nonce, keys, s, x),
+        Kind::Saef => saef::open_block(c, share, nonce, keys, s, x),
     }
 }
 
@@ -157,17 +196,18 @@ pub fn open_block(c: Cipher, k: Kind, key: [u8; 16], nonce: &[u8], s: State, x: 
 pub fn open_last(
     c: Cipher,
     k: Kind,
-    key: [u8; 16],
+    share: &[u8; 784],
     nonce: &[u8],
+    keys: &mut [[u8; 8]; 97],
     full: bool,
     s: State,
     x: [u8; 16],
 ) -> Pair
-    requires { ⌜ (length (now nonce) + tailOf k ≡ blockOf c) × (s .number ≤ 4294967296) ⌝ }
-    ensures { λ r. ⌜ Paired k (blockOf c) ((modeOf k c key (now (nonce .entry))) .unfin full) ((modeOf k c key (now (nonce .entry))) .untag full) s x (r .first) (r .second) ⌝ }
+    requires { ⌜ (length (now nonce) + tailOf k ≡ blockOf c) × (s .number ≤ 4294967296) × Lent c (now share) (s .kept) (now keys) ⌝ }
+    ensures { λ r. ⌜ Paired k (blockOf c) ((modeOf k c (keyIn c (now (share .entry))) (now (nonce .entry))) .unfin full) ((modeOf k c (keyIn c (now (share .entry))) (now (nonce .entry))) .untag full) s x (r .first) (r .second) × Lent c (now (share .entry)) (r .kept) (now (keys .exit)) ⌝ }
 {
     match k {
-        Kind::Paef => paef::open_last(c, key, nonce, full, s, x),
-        Kind::Saef => saef::open_last(c, key, nonce, full, s, x),
+        Kind::Paef => paef::open_last(c, share, nonce, keys, full, s, x),
+        Kind::Saef => saef::open_last(c, share, nonce, keys, full, s, x),
     }
 }

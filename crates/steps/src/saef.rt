@@ -1,14 +1,19 @@
 // SAEF (001, figure 8), block by block.
+use crate::Left;
 use crate::Pair;
 use crate::State;
 use crate::Step;
 use blocks::front;
 use blocks::xored;
 use ciphers::Cipher;
+use forkskinny::fork_on;
+use forkskinny::unfork_on;
 ghost use mathlib.Core.Path.{_≡_};
 ghost use Prim.Native.Nat.{_+_, _≤_};
 ghost use lib.ListN.{length, take};
 ghost use Rattle.ciphers.specs.Ciphers.{blockOf};
+ghost use Rattle.prepared.specs.Prepared.{keyIn};
+ghost use Rattle.kept.specs.Kept.{Lent};
 ghost use Rattle.modes.specs.Saef.{saefTweak, saefHead, saefBody, maskHalf, maskInput, maskOther};
 ghost use Rattle.steps.specs.declared.Kind.the-variants.{Saef};
 ghost use Rattle.steps.specs.Skinny.{skinny};
@@ -47,81 +52,131 @@ fn body_flag(full: bool) -> u8
 }
 
 // Half 0 of a masked header block.
-fn head_delta(c: Cipher, key: [u8; 16], nonce: &[u8], flag: u8, s: State, x: [u8; 16]) -> [u8; 16]
-    requires { ⌜ (length (now nonce) + 1 ≡ blockOf c) × (flag ≤ 7) ⌝ }
-    ensures { λ r. ⌜ take (blockOf c) r ≡ maskHalf (blockOf c) (skinny c key) (now (nonce .entry)) 0 flag (stateOf Saef (blockOf c) s) (take (blockOf c) x) ⌝ }
+fn head_delta(
+    c: Cipher,
+    share: &[u8; 784],
+    nonce: &[u8],
+    keys: &mut [[u8; 8]; 97],
+    flag: u8,
+    s: State,
+    x: [u8; 16],
+) -> Left
+    requires { ⌜ (length (now nonce) + 1 ≡ blockOf c) × (flag ≤ 7) × Lent c (now share) (s .kept) (now keys) ⌝ }
+    ensures { λ r. ⌜ (take (blockOf c) (r .mask) ≡ maskHalf (blockOf c) (skinny c (keyIn c (now (share .entry)))) (now (nonce .entry)) 0 flag (stateOf Saef (blockOf c) s) (take (blockOf c) x)) × Lent c (now (share .entry)) (r .kept) (now (keys .exit)) ⌝ }
 {
     let t = tweak(nonce, s.first, flag);
     let delta = s.mask;
     let y = xored(x, delta);
-    let f = forkskinny::fork_by(c, key, t, y, 0);
-    f.half0
+    let old = s.kept;
+    let f = fork_on(c, share, keys, old, t, y, 0);
+    let halves = f.forked;
+    let kept = f.kept;
+    let half = halves.half0;
+    Left { mask: half, kept }
 }
 
-pub fn head(c: Cipher, key: [u8; 16], nonce: &[u8], s: State, x: [u8; 16]) -> State
-    requires { ⌜ length (now nonce) + 1 ≡ blockOf c ⌝ }
-    ensures { λ r. ⌜ (stateOf Saef (blockOf c) r ≡ (modeOf Saef c key (now (nonce .entry))) .head (stateOf Saef (blockOf c) s) (take (blockOf c) x)) × (r .number ≤ s .number + 1) ⌝ }
+pub fn head(
+    c: Cipher,
+    share: &[u8; 784],
+    nonce: &[u8],
+    keys: &mut [[u8; 8]; 97],
+    s: State,
+    x: [u8; 16],
+) -> State
+    requires { ⌜ (length (now nonce) + 1 ≡ blockOf c) × Lent c (now share) (s .kept) (now keys) ⌝ }
+    ensures { λ r. ⌜ (stateOf Saef (blockOf c) r ≡ (modeOf Saef c (keyIn c (now (share .entry))) (now (nonce .entry))) .head (stateOf Saef (blockOf c) s) (take (blockOf c) x)) × (r .number ≤ s .number + 1) × Lent c (now (share .entry)) (r .kept) (now (keys .exit)) ⌝ }
 {
-    let delta = head_delta(c, key, nonce, 0, s, x);
+    let left = head_delta(c, share, nonce, keys, 0, s, x);
+    let delta = left.mask;
+    let kept = left.kept;
     State {
         mask: delta,
         number: s.number,
         first: false,
+        kept,
     }
 }
 
 pub fn head_last(
     c: Cipher,
-    key: [u8; 16],
+    share: &[u8; 784],
     nonce: &[u8],
+    keys: &mut [[u8; 8]; 97],
     empty: bool,
     full: bool,
     s: State,
     x: [u8; 16],
 ) -> State
-    requires { ⌜ length (now nonce) + 1 ≡ blockOf c ⌝ }
-    ensures { λ r. ⌜ (stateOf Saef (blockOf c) r ≡ (modeOf Saef c key (now (nonce .entry))) .headLast empty full (stateOf Saef (blockOf c) s) (take (blockOf c) x)) × (r .number ≤ 1) ⌝ }
+    requires { ⌜ (length (now nonce) + 1 ≡ blockOf c) × Lent c (now share) (s .kept) (now keys) ⌝ }
+    ensures { λ r. ⌜ (stateOf Saef (blockOf c) r ≡ (modeOf Saef c (keyIn c (now (share .entry))) (now (nonce .entry))) .headLast empty full (stateOf Saef (blockOf c) s) (take (blockOf c) x)) × (r .number ≤ 1) × Lent c (now (share .entry)) (r .kept) (now (keys .exit)) ⌝ }
 {
     let flag = head_flag(empty, full);
-    let delta = head_delta(c, key, nonce, flag, s, x);
+    let left = head_delta(c, share, nonce, keys, flag, s, x);
+    let delta = left.mask;
+    let kept = left.kept;
     State {
         mask: delta,
         number: 1,
         first: false,
+        kept,
     }
 }
 
 // Both halves of a masked body block.
-fn both(c: Cipher, key: [u8; 16], nonce: &[u8], flag: u8, s: State, x: [u8; 16]) -> Pair
-    requires { ⌜ (length (now nonce) + 1 ≡ blockOf c) × (flag ≤ 7) ⌝ }
-    ensures { λ r. ⌜ Paired Saef (blockOf c) (maskHalf (blockOf c) (skinny c key) (now (nonce .entry)) 0 flag) (maskHalf (blockOf c) (skinny c key) (now (nonce .entry)) 1 flag) s x (r .first) (r .second) ⌝ }
+fn both(
+    c: Cipher,
+    share: &[u8; 784],
+    nonce: &[u8],
+    keys: &mut [[u8; 8]; 97],
+    flag: u8,
+    s: State,
+    x: [u8; 16],
+) -> Pair
+    requires { ⌜ (length (now nonce) + 1 ≡ blockOf c) × (flag ≤ 7) × Lent c (now share) (s .kept) (now keys) ⌝ }
+    ensures { λ r. ⌜ Paired Saef (blockOf c) (maskHalf (blockOf c) (skinny c (keyIn c (now (share .entry)))) (now (nonce .entry)) 0 flag) (maskHalf (blockOf c) (skinny c (keyIn c (now (share .entry)))) (now (nonce .entry)) 1 flag) s x (r .first) (r .second) × Lent c (now (share .entry)) (r .kept) (now (keys .exit)) ⌝ }
 {
     let t = tweak(nonce, s.first, flag);
     let delta = s.mask;
     let y = xored(x, delta);
-    let f = forkskinny::fork_by(c, key, t, y, 2);
-    let half0 = f.half0;
-    let half1 = f.half1;
+    let old = s.kept;
+    let f = fork_on(c, share, keys, old, t, y, 2);
+    let halves = f.forked;
+    let kept = f.kept;
+    let half0 = halves.half0;
+    let half1 = halves.half1;
     Pair {
         first: half0,
         second: half1,
+        kept,
     }
 }
 
 // Back from a masked half 0: the masked block, and half 1.
-fn back(c: Cipher, key: [u8; 16], nonce: &[u8], flag: u8, s: State, x: [u8; 16]) -> Pair
-    requires { ⌜ (length (now nonce) + 1 ≡ blockOf c) × (flag ≤ 7) ⌝ }
-    ensures { λ r. ⌜ Paired Saef (blockOf c) (maskInput (blockOf c) (skinny c key) (now (nonce .entry)) flag) (maskOther (blockOf c) (skinny c key) (now (nonce .entry)) flag) s x (r .first) (r .second) ⌝ }
+fn back(
+    c: Cipher,
+    share: &[u8; 784],
+    nonce: &[u8],
+    keys: &mut [[u8; 8]; 97],
+    flag: u8,
+    s: State,
+    x: [u8; 16],
+) -> Pair
+    requires { ⌜ (length (now nonce) + 1 ≡ blockOf c) × (flag ≤ 7) × Lent c (now share) (s .kept) (now keys) ⌝ }
+    ensures { λ r. ⌜ Paired Saef (blockOf c) (maskInput (blockOf c) (skinny c (keyIn c (now (share .entry)))) (now (nonce .entry)) flag) (maskOther (blockOf c) (skinny c (keyIn c (now (share .entry)))) (now (nonce .entry)) flag) s x (r .first) (r .second) × Lent c (now (share .entry)) (r .kept) (now (keys .exit)) ⌝ }
 {
     let t = tweak(nonce, s.first, flag);
     let delta = s.mask;
     let y = xored(x, delta);
-    let u = forkskinny::unfork_by(c, key, t, y, 0, 2);
-    let input = u.input;
-    let other = u.other;
+    let old = s.kept;
+    let u = unfork_on(c, share, keys, old, t, y, 0, 2);
+    let back = u.unforked;
+    let kept = u.kept;
+    let input = back.input;
+    let other = back.other;
     Pair {
         first: input,
         second: other,
+        kept,
     }
 }
 
@@ -132,9 +187,11 @@ fn unmasked(s: State, p: Pair) -> Pair
     let delta = s.mask;
     let first = p.first;
     let second = p.second;
+    let kept = p.kept;
     Pair {
         first: xored(first, delta),
         second,
+        kept,
     }
 }
 
@@ -145,40 +202,72 @@ fn moved(s: State, p: Pair) -> Step
     let u = unmasked(s, p);
     let out = u.first;
     let mask = u.second;
+    let kept = u.kept;
     Step {
         out,
         next: State {
             mask,
             number: s.number,
             first: false,
+            kept,
         },
     }
 }
 
-pub fn seal_block(c: Cipher, key: [u8; 16], nonce: &[u8], s: State, x: [u8; 16]) -> Step
-    requires { ⌜ length (now nonce) + 1 ≡ blockOf c ⌝ }
-    ensures { λ r. ⌜ Stepped Saef (blockOf c) ((modeOf Saef c key (now (nonce .entry))) .out) ((modeOf Saef c key (now (nonce .entry))) .next) s x (r .out) (r .next) ⌝ }
+pub fn seal_block(
+    c: Cipher,
+    share: &[u8; 784],
+    nonce: &[u8],
+    keys: &mut [[u8; 8]; 97],
+    s: State,
+    x: [u8; 16],
+) -> Step
+    requires { ⌜ (length (now nonce) + 1 ≡ blockOf c) × Lent c (now share) (s .kept) (now keys) ⌝ }
+    ensures { λ r. ⌜ Stepped Saef (blockOf c) ((modeOf Saef c (keyIn c (now (share .entry))) (now (nonce .entry))) .out) ((modeOf Saef c (keyIn c (now (share .entry))) (now (nonce .entry))) .next) s x (r .out) (r .next) × Lent c (now (share .entry)) (r .next .kept) (now (keys .exit)) ⌝ }
 {
-    moved(s, both(c, key, nonce, 1, s, x))
+    moved(s, both(c, share, nonce, keys, 1, s, x))
 }
 
-pub fn seal_last(c: Cipher, key: [u8; 16], nonce: &[u8], full: bool, s: State, x: [u8; 16]) -> Pair
-    requires { ⌜ length (now nonce) + 1 ≡ blockOf c ⌝ }
-    ensures { λ r. ⌜ Paired Saef (blockOf c) ((modeOf Saef c key (now (nonce .entry))) .fin full) ((modeOf Saef c key (now (nonce .entry))) .tag full) s x (r .first) (r .second) ⌝ }
+pub fn seal_last(
+    c: Cipher,
+    share: &[u8; 784],
+    nonce: &[u8],
+    keys: &mut [[u8; 8]; 97],
+    full: bool,
+    s: State,
+    x: [u8; 16],
+) -> Pair
+    requires { ⌜ (length (now nonce) + 1 ≡ blockOf c) × Lent c (now share) (s .kept) (now keys) ⌝ }
+    ensures { λ r. ⌜ Paired Saef (blockOf c) ((modeOf Saef c (keyIn c (now (share .entry))) (now (nonce .entry))) .fin full) ((modeOf Saef c (keyIn c (now (share .entry))) (now (nonce .entry))) .tag full) s x (r .first) (r .second) × Lent c (now (share .entry)) (r .kept) (now (keys .exit)) ⌝ }
 {
-    unmasked(s, both(c, key, nonce, body_flag(full), s, x))
+    unmasked(s, both(c, share, nonce, keys, body_flag(full), s, x))
 }
 
-pub fn open_block(c: Cipher, key: [u8; 16], nonce: &[u8], s: State, x: [u8; 16]) -> Step
-    requires { ⌜ length (now nonce) + 1 ≡ blockOf c ⌝ }
-    ensures { λ r. ⌜ Stepped Saef (blockOf c) ((modeOf Saef c key (now (nonce .entry))) .back) ((modeOf Saef c key (now (nonce .entry))) .backNext) s x (r .out) (r .next) ⌝ }
+pub fn open_block(
+    c: Cipher,
+    share: &[u8; 784],
+    nonce: &[u8],
+    keys: &mut [[u8; 8]; 97],
+    s: State,
+    x: [u8; 16],
+) -> Step
+    requires { ⌜ (length (now nonce) + 1 ≡ blockOf c) × Lent c (now share) (s .kept) (now keys) ⌝ }
+    ensures { λ r. ⌜ Stepped Saef (blockOf c) ((modeOf Saef c (keyIn c (now (share .entry))) (now (nonce .entry))) .back) ((modeOf Saef c (keyIn c (now (share .entry))) (now (nonce .entry))) .backNext) s x (r .out) (r .next) × Lent c (now (share .entry)) (r .next .kept) (now (keys .exit)) ⌝ }
 {
-    moved(s, back(c, key, nonce, 1, s, x))
+    moved(s, back(c, share, nonce, keys, 1, s, x))
 }
 
-pub fn open_last(c: Cipher, key: [u8; 16], nonce: &[u8], full: bool, s: State, x: [u8; 16]) -> Pair
-    requires { ⌜ length (now nonce) + 1 ≡ blockOf c ⌝ }
-    ensures { λ r. ⌜ Paired Saef (blockOf c) ((modeOf Saef c key (now (nonce .entry))) .unfin full) ((modeOf Saef c key (now (nonce .entry))) .untag full) s x (r .first) (r .second) ⌝ }
+pub fn open_last(
+    c: Cipher,
+    share: &[u8; 784],
+    nonce: &[u8],
+    keys: &mut [[u8; 8]; 97],
+    full: bool,
+    s: State,
+    x: [u8; 16],
+) -> Pair
+    requires { ⌜ (length (now nonce) + 1 ≡ blockOf c) × Lent c (now share) (s .kept) (now keys) ⌝ }
+    ensures { λ r. ⌜ Paired Saef (blockOf c) ((modeOf Saef c (keyIn c (now (share .entry))) (now (nonce .entry))) .unfin full) ((modeOf Saef c (keyIn c (now (share .entry))) (now (nonce .entry))) .untag full) s x (r .first) (r .second) × Lent c (now (share .entry)) (r .kept) (now (keys .exit)) ⌝ }
 {
-    unmasked(s, back(c, key, nonce, body_flag(full), s, x))
+    unmasked(s, back(c, share, nonce, keys, body_flag(full), s, x))
 }

@@ -12,6 +12,7 @@ use lib.Seq.{length-take-le, take-take, take-add, drop-at}
 use Rattle.ciphers.proofs.Laws.{block-some, block-most}
 use Rattle.ciphers.specs.declared.Cipher.{Cipher}
 use Rattle.ciphers.specs.Ciphers.{blockOf}
+use Rattle.kept.specs.Kept.{Lent}
 use Rattle.modes.specs.Blocks.{full, ten, pad, same}
 use Rattle.modes.specs.Mode.{Mode, Opened, before, judge, endTag, endBlock, openLast, openRest}
 use Rattle.modes.proofs.Bytes.{pad-long}
@@ -159,13 +160,15 @@ module _ (c : Cipher) (k : Kind) (key nonce run : List ℕ) (start : State) (roo
     module _ (m : ℕ) (em : m ≡ size) (w : Walkable c k nonce run) (may : Openable size run room₀) where
       -- what a turn requires, and what it does
       module _ (h : m < length run - m - at) where
-        pub turn-may : Ready c k nonce s × (size ≤ length part) × (size ≤ length (lent at room))
-        turn-may =
+        pub turn-may
+            : {share : List ℕ} {keys : List (List ℕ)} → Lent c share (s .kept) keys
+            → Ready c k share nonce s keys × (size ≤ length part) × (size ≤ length (lent at room))
+        turn-may l =
             let i = g .inside in
             let o = g .writing .wrote .long in
             let p = lent-long at run in
             let q = lent-long at room in
-            (ready-at w at (g .number) (omega arith), omega arith, omega arith)
+            (ready-at w at (g .number) (omega arith) l, omega arith, omega arith)
 
         pub opening-more : (s′ : State) (ys : List ℕ) → OpenTurned c k key nonce s part (lent at room) s′ ys → OpenGoing s′ (at + m) (after at room ys)
         opening-more s′ ys t =
@@ -173,13 +176,15 @@ module _ (c : Cipher) (k : Kind) (key nonce run : List ℕ) (start : State) (roo
 
       -- what the end requires, and what it comes to
       module _ (h : length run - m - at ≤ m) where
-        pub end-may : Ready c k nonce s × Openable size part (lent at room) × (length part ≤ size + size)
-        end-may =
+        pub end-may
+            : {share : List ℕ} {keys : List (List ℕ)} → Lent c share (s .kept) keys
+            → Ready c k share nonce s keys × Openable size part (lent at room) × (length part ≤ size + size)
+        end-may l =
             let i = g .inside in
             let o = g .writing .wrote .long in
             let p = lent-long at run in
             let q = lent-long at room in
-            (ready-at w at (g .number) (omega arith), record { block = omega arith; fits = omega arith }, omega arith)
+            (ready-at w at (g .number) (omega arith) l, record { block = omega arith; fits = omega arith }, omega arith)
 
         all-is : (done : List ℕ) → Opening size mode here run at done all → before done (openLast size mode here part) ≡ all
         all-is done o =

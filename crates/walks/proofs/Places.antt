@@ -1,12 +1,16 @@
 -- Where the walks stand: the order of a run's end, what is lent and what is loaded from its front, and a step that may be taken.
 -- Assumes nothing.
 use mathlib.Core.Bool.{true}
-use mathlib.Core.Path.{_≡_, refl, ap, _∙_, subst}
+use mathlib.Core.Path.{_≡_, refl, ap, _∙_, subst, subst⁻¹}
 use mathlib.Core.List.{List, _++_}
 use Prim.Native.Nat.{ℕ, _+_, _-_, _≤_}
 use native.Mathlib.Omega.{arith}
 use lib.ListN.{length, take, drop, length-drop}
 use Rattle.ciphers.specs.declared.Cipher.{Cipher}
+use Rattle.prepared.specs.Prepared.{Made}
+use Rattle.kept.specs.declared.Kept.{Kept}
+use Rattle.kept.specs.Kept.{nothing, Keeps, Lent}
+use Rattle.kept.proofs.Parts.{none-kept}
 use Rattle.modes.specs.Blocks.{pad}
 use Rattle.modes.specs.Paef.{paef}
 use Rattle.modes.specs.Saef.{saef}
@@ -25,9 +29,14 @@ block-first Paef c key nonce = refl
 block-first Saef c key nonce = refl
 
 -- a step at a place of what is walked
-pub ready-at : {c : Cipher} {k : Kind} {nonce walked : List ℕ} {s : State} → Walkable c k nonce walked → (at : ℕ) → s .number ≤ at + 1
-    → at ≤ length walked → Ready c k nonce s
-ready-at w at n h = record { fills = w .fills; number = omega arith }
+pub ready-at
+    : {c : Cipher} {k : Kind} {share nonce walked : List ℕ} {s : State} {keys : List (List ℕ)} → Walkable c k nonce walked → (at : ℕ) → s .number ≤ at + 1
+    → at ≤ length walked → Lent c share (s .kept) keys → Ready c k share nonce s keys
+ready-at w at n h l = record { fills = w .fills; number = omega arith; lent = l }
+
+-- a room in which nothing is kept
+pub lent-none : (c : Cipher) (share : List ℕ) {kept : Kept} {keys : List (List ℕ)} → Made c share → length keys ≡ 97 → kept ≡ nothing → Lent c share kept keys
+lent-none c share {keys = keys} m l e = record { made = m; keeps = subst⁻¹ (λ (k : Kept). Keeps c share k keys) e (none-kept c share keys l) }
 
 -- ---- `&l[at..]` or `&mut l[at..]`; and the whole of l, when that came back as ys
 

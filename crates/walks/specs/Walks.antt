@@ -6,6 +6,7 @@ use Prim.Native.Nat.{ℕ, _+_, _-_, _≤_}
 use lib.ListN.{length, take, drop}
 use Rattle.ciphers.specs.declared.Cipher.{Cipher}
 use Rattle.ciphers.specs.Ciphers.{blockOf}
+use Rattle.kept.specs.Kept.{Lent}
 use Rattle.modes.specs.Blocks.{full, pad}
 use Rattle.modes.specs.Mode.{Mode, Opened, walk, headed, sealLast, sealRest, sealRun, openLast, openRest, openRun}
 use Rattle.steps.specs.declared.Kind.{Kind}
@@ -14,10 +15,11 @@ use Rattle.steps.specs.Modes.{Carried, modeOf, tailOf, stateOf}
 
 -- ---- asked
 
--- of a step: the nonce fills the tweak, and the state's number can be counted on
-pub record Ready (c : Cipher) (k : Kind) (nonce : List ℕ) (s : State) : Type 0 where
+-- of a step: the nonce fills the tweak, the state's number can be counted on, and the room holds what the state tells of it
+pub record Ready (c : Cipher) (k : Kind) (share nonce : List ℕ) (s : State) (keys : List (List ℕ)) : Type 0 where
   pub fills : length nonce + tailOf k ≡ blockOf c
   pub number : s .number ≤ 4294967296
+  pub lent : Lent c share (s .kept) keys
 
 -- of a walk: the nonce fills the tweak, and the blocks of what is walked can be counted
 pub record Walkable (c : Cipher) (k : Kind) (nonce walked : List ℕ) : Type 0 where

@@ -12,6 +12,8 @@ ghost use mathlib.Core.Bool.{_&&_};
 ghost use Prim.Native.Nat.{_+_, _-_, _≤_, _<_};
 ghost use lib.ListN.{length, take, drop};
 ghost use Rattle.ciphers.specs.Ciphers.{blockOf};
+ghost use Rattle.prepared.specs.Prepared.{keyIn};
+ghost use Rattle.kept.specs.Kept.{Lent};
 ghost use Rattle.modes.specs.Blocks.{same, ten};
 ghost use Rattle.walks.specs.Walks.{Ready, Walkable, Openable, OpenTurned, OpenEnded, RunOpened};
 
@@ -19,17 +21,18 @@ ghost use Rattle.walks.specs.Walks.{Ready, Walkable, Openable, OpenTurne
 fn turn(
     c: Cipher,
     k: Kind,
-    key: [u8; 16],
+    share: &[u8; 784],
     nonce: &[u8],
+    keys: &mut [[u8; 8]; 97],
     s: State,
     part: &[u8],
     rest: &mut [u8],
 ) -> State
-    requires { ⌜ Ready c k (now nonce) s × (blockOf c ≤ length (now part)) × (blockOf c ≤ length (now rest)) ⌝ }
-    ensures { λ r. ⌜ OpenTurned c k key (now (nonce .entry)) s (now (part .entry)) (now (rest .entry)) r (now (rest .exit)) ⌝ }
+    requires { ⌜ Ready c k (now share) (now nonce) s (now keys) × (blockOf c ≤ length (now part)) × (blockOf c ≤ length (now rest)) ⌝ }
+    ensures { λ r. ⌜ OpenTurned c k (keyIn c (now (share .entry))) (now (nonce .entry)) s (now (part .entry)) (now (rest .entry)) r (now (rest .exit)) × Lent c (now (share .entry)) (r .kept) (now (keys .exit)) ⌝ }
 {
     let n = ciphers::block_of(c);
-    let t = steps::open_block(c, k, key, nonce, s, load(part, n));
+    let t = steps::open_block(c, k, share, nonce, keys, s, load(part, n));
     let out = t.out;
     store(rest, out, n);
     t.next
@@ -52,19 +55,20 @@ fn judge(n: usize, r: usize, block: [u8; 16], second: [u8; 16], tag: &[u8]) -> b
 fn end(
     c: Cipher,
     k: Kind,
-    key: [u8; 16],
+    share: &[u8; 784],
     nonce: &[u8],
+    keys: &mut [[u8; 8]; 97],
     s: State,
     part: &[u8],
     rest: &mut [u8],
 ) -> bool
-    requires { ⌜ Ready c k (now nonce) s × Openable (blockOf c) (now part) (now rest) × (length (now part) ≤ blockOf c + blockOf c) ⌝ }
-    ensures { λ r. ⌜ OpenEnded c k key (now (nonce .entry)) s (now (part .entry)) (now (rest .entry)) r (now (rest .exit)) ⌝ }
+    requires { ⌜ Ready c k (now share) (now nonce) s (now keys) × Openable (blockOf c) (now part) (now rest) × (length (now part) ≤ blockOf c + blockOf c) ⌝ }
+    ensures { λ r. ⌜ OpenEnded c k (keyIn c (now (share .entry))) (now (nonce .entry)) s (now (part .entry)) (now (rest .entry)) r (now (rest .exit)) ⌝ }
 {
     let n = ciphers::block_of(c);
     let r = part.len() - n;
     let f = is_full(n, r);
-    let p = steps::open_last(c, k, key, nonce, f, s, load(part, n));
+    let p = steps::open_last(c, k, share, nonce, keys, f, s, load(part, n));
     let block = p.first;
     let second = p.second;
     store(rest, block, r);
@@ -74,21 +78,22 @@ fn end(
 pub fn run(
     c: Cipher,
     k: Kind,
-    key: [u8; 16],
+    share: &[u8; 784],
     nonce: &[u8],
+    keys: &mut [[u8; 8]; 97],
     start: State,
     run: &[u8],
     room: &mut [u8],
 ) -> bool
-    requires { ⌜ Walkable c k (now nonce) (now run) × (start .number ≤ 1) × Openable (blockOf c) (now run) (now room) × (blockOf c < length (now run)) ⌝ }
-    ensures { λ r. ⌜ RunOpened c k key (now (nonce .entry)) start (now (run .entry)) (now (room .entry)) r (now (room .exit)) ⌝ }
+    requires { ⌜ Walkable c k (now nonce) (now run) × (start .number ≤ 1) × Openable (blockOf c) (now run) (now room) × (blockOf c < length (now run)) × Lent c (now share) (start .kept) (now keys) ⌝ }
+    ensures { λ r. ⌜ RunOpened c k (keyIn c (now (share .entry))) (now (nonce .entry)) start (now (run .entry)) (now (room .entry)) r (now (room .exit)) ⌝ }
 {
     let n = ciphers::block_of(c);
     let mut s = start;
     let mut at = 0;
     while n < run.len() - n - at {
-        s = turn(c, k, key, nonce, s, &run[at..], &mut room[at..]);
+        s = turn(c, k, share, nonce, keys, s, &run[at..], &mut room[at..]);
         at += n;
     }
-    end(c, k, key, nonce, s, &run[at..], &mut room[at..])
+    end(c, k, share, nonce, keys, s, &run[at..], &mut room[at..])
 }

@@ -1,6 +1,7 @@
-//! The five calls of auraski.h, of whatever library exports them under names of
-//! its own. One macro, so that ours and the rival are called in the same way.
-//! What it makes, `meter` and `opaque` are the only `unsafe` of this package.
+//! The calls of auraski.h by key, and its rounds, of whatever library exports them
+//! under names of its own. One macro, so that ours and the rival are called in the
+//! same way. What it makes, `auraski` and `meter` are the only `unsafe` of this
+//! package.
 
 /// What seal and open tell a C caller: number and length, and no rounds.
 #[derive(Clone, Copy, PartialEq, Eq, Debug)]

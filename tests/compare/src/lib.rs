@@ -4,8 +4,8 @@
 //! flat arrays of cells; it shares no line with the library.
 //!
 //! Documents are named as in the comments: "document 01" is the scope paper,
-//! "001" is the paper Forkcipher (extended version), and "C-11", "C-12" and
-//! "C-13" are the requests of those names in document 02.
+//! "001" is the paper Forkcipher (extended version), and "C-11", "C-12", "C-13"
+//! and "C-16" are the requests of those names in document 02.
 
 pub mod blocks;
 pub mod calls;
@@ -15,6 +15,7 @@ pub mod forged;
 pub mod forkskinny;
 pub mod jobs;
 pub mod paef;
+pub mod prepared;
 pub mod random;
 pub mod records;
 pub mod rounds;

@@ -7,6 +7,9 @@ use crate::schemes::Scheme;
 /// Seal or open, of any side; some tell rounds and some don't.
 pub type Sealing<A> = fn(u32, &[u8], &[u8], &[u8], &[u8], &mut [u8]) -> A;
 
+/// The same with a key that the side has prepared.
+pub type SealingPrepared<P, A> = fn(u32, &P, &[u8], &[u8], &[u8], &mut [u8]) -> A;
+
 /// Bytes of room behind an output, where no other room is asked for.
 pub const SPARE: usize = 3;
 
@@ -28,6 +31,14 @@ impl Direction {
 
     pub fn find(word: &str) -> Option<Direction> {
         Direction::BOTH.into_iter().find(|one| one.name() == word)
+    }
+
+    /// Which of a seal and an open it is.
+    pub fn of<F>(self, [seal, open]: [F; 2]) -> F {
+        match self {
+            Direction::Seal => seal,
+            Direction::Open => open,
+        }
     }
 }
 
@@ -86,14 +97,30 @@ impl Call {
     }
 
     /// Made by one side's seal or open, in the front of a room.
-    pub fn make<A>(&self, [seal, open]: [Sealing<A>; 2], room: &mut [u8]) -> A {
-        let function = match self.direction {
-            Direction::Seal => seal,
-            Direction::Open => open,
-        };
+    pub fn make<A>(&self, calls: [Sealing<A>; 2], room: &mut [u8]) -> A {
+        let function = self.direction.of(calls);
         let (key, nonce, header) = (&self.key, &self.nonce, &self.header);
         let room = &mut room[..self.room];
         function(self.scheme, key, nonce, header, &self.text, room)
+    }
+
+    /// The same with a prepared key in place of the key.
+    pub fn make_prepared<P, A>(
+        &self,
+        calls: [SealingPrepared<P, A>; 2],
+        prepared: &P,
+        room: &mut [u8],
+    ) -> A {
+        let function = self.direction.of(calls);
+        let (nonce, header) = (&self.nonce, &self.header);
+        let room = &mut room[..self.room];
+        function(self.scheme, prepared, nonce, header, &self.text, room)
+    }
+
+    /// The cipher for which the key is to be prepared; of an unknown scheme any,
+    /// since that is told first.
+    pub fn cipher(&self) -> u32 {
+        Scheme::find(self.scheme).map_or(1, |row| row.cipher)
     }
 
     /// How long the output would be.

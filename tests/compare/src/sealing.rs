@@ -1,12 +1,14 @@
 //! Seal, open and view (document 01, "What a caller is told", with the
-//! refusals of C-11, the limits of C-12 and the rounds of C-13). The first
-//! check that applies answers.
+//! refusals of C-11, the limits of C-12, the rounds of C-13 and the prepared
+//! keys of C-16). The first check that applies answers.
 
+use crate::prepared::Prepared;
 use crate::schemes::{Keyed, Mode, Scheme, KEY_BYTES};
 use crate::{paef, saef};
 
 pub const DONE: u32 = 0;
 pub const UNKNOWN_SCHEME: u32 = 1;
+/// With a prepared key: it is not admitted under the scheme's cipher.
 pub const WRONG_KEY_LENGTH: u32 = 2;
 pub const WRONG_NONCE_LENGTH: u32 = 7;
 pub const HEADER_TOO_LONG: u32 = 3;
@@ -78,10 +80,14 @@ fn refuse_if(applies: bool, number: u32) -> Result<(), u32> {
     }
 }
 
-/// Refusals 1, 2 and 7.
-fn find<'a>(scheme: u32, key: &'a [u8], nonce: &'a [u8]) -> Result<Keyed<'a>, u32> {
+/// Refusals 1, 2 and 7. `key_under` gives the key, if it is one under a cipher.
+fn find<'a>(
+    scheme: u32,
+    key_under: impl FnOnce(u32) -> Option<&'a [u8; KEY_BYTES]>,
+    nonce: &'a [u8],
+) -> Result<Keyed<'a>, u32> {
     let scheme = Scheme::find(scheme).ok_or(UNKNOWN_SCHEME)?;
-    let key = key.try_into().map_err(|_| WRONG_KEY_LENGTH)?;
+    let key = key_under(scheme.cipher).ok_or(WRONG_KEY_LENGTH)?;
     refuse_if(nonce.len() != scheme.nonce_bytes, WRONG_NONCE_LENGTH)?;
     Ok(Keyed::new(scheme, key, nonce))
 }
@@ -132,7 +138,7 @@ pub fn seal(
     body: &[u8],
     room: &mut [u8],
 ) -> Answer {
-    let found = find(scheme, key, nonce);
+    let found = find(scheme, |_| key.try_into().ok(), nonce);
     answer_of(found, |keyed| try_seal(keyed, header, body, room))
 }
 
@@ -145,7 +151,33 @@ pub fn open(
     run: &[u8],
     room: &mut [u8],
 ) -> Answer {
-    let found = find(scheme, key, nonce);
+    let found = find(scheme, |_| key.try_into().ok(), nonce);
+    answer_of(found, |keyed| try_open(keyed, header, run, room))
+}
+
+/// Seals with a prepared key.
+pub fn seal_prepared(
+    scheme: u32,
+    prepared: &Prepared,
+    nonce: &[u8],
+    header: &[u8],
+    body: &[u8],
+    room: &mut [u8],
+) -> Answer {
+    let found = find(scheme, |cipher| prepared.key_under(cipher), nonce);
+    answer_of(found, |keyed| try_seal(keyed, header, body, room))
+}
+
+/// Opens with a prepared key.
+pub fn open_prepared(
+    scheme: u32,
+    prepared: &Prepared,
+    nonce: &[u8],
+    header: &[u8],
+    run: &[u8],
+    room: &mut [u8],
+) -> Answer {
+    let found = find(scheme, |cipher| prepared.key_under(cipher), nonce);
     answer_of(found, |keyed| try_open(keyed, header, run, room))
 }
 

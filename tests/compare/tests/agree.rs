@@ -1,10 +1,10 @@
 //! The library, through its C entry points, and the meter, which tells rounds
 //! too, against the second program: every number, every byte of both result
-//! blocks, and the rounds.
+//! blocks, and the rounds. Each call is made by key and with a prepared key.
 
 use compare::calls::{fork, unfork, DONE};
 use compare::random::Random;
-use compare::{auraski, meter};
+use compare::{auraski, meter, prepared};
 use std::collections::BTreeMap;
 
 type Block = [u8; 16];
@@ -45,31 +45,58 @@ fn every_kind() -> Vec<Kind> {
     kinds
 }
 
+/// The key, prepared by the library for a cipher that may be unknown.
+fn prepare(cipher: u32, key: &Block) -> auraski::Prepared {
+    let (number, prepared) = auraski::prepare(cipher, key);
+    assert_eq!(number, prepared::prepare(cipher, key).0);
+    prepared
+}
+
 /// Compares one call of all three, and gives its result blocks. Those of library
 /// and meter are filled before it, the one with a byte and the other with that
 /// byte's complement.
 fn compare(kind: Kind, [key, tweak, block]: &[Block; 3], filling: u8) -> [Block; 2] {
     let before = [[filling; 16], [!filling; 16]];
-    let [mut first, mut second] = before;
-    let room = [&mut first, &mut second];
-    let (number, expected) = match kind {
+    let (mut by_key, mut with_prepared) = (before, before);
+    let [room, other_room] = [&mut by_key, &mut with_prepared].map(|[a, b]| [a, b]);
+    let (numbers, expected) = match kind {
         Kind::Forward { cipher, want } => {
+            let prepared = &prepare(cipher, key);
             let answer = fork(cipher, key, tweak, block, want);
-            let metered = meter::fork(cipher, key, tweak, block, want, before);
-            assert_eq!(metered, answer, "{:?}", kind);
-            let number = auraski::fork(cipher, key, tweak, block, want, room);
-            (number, (answer.number, answer.half0, answer.half1))
+            let metered = [
+                meter::fork(cipher, key, tweak, block, want, before),
+                meter::fork_prepared(cipher, prepared, tweak, block, want, before),
+            ];
+            assert_eq!(metered, [answer; 2], "{:?}", kind);
+            let numbers = [
+                auraski::fork(cipher, key, tweak, block, want, room),
+                auraski::fork_prepared(cipher, prepared, tweak, block, want, other_room),
+            ];
+            (numbers, (answer.number, [answer.half0, answer.half1]))
         }
         Kind::Back { cipher, from, want } => {
+            let prepared = &prepare(cipher, key);
             let answer = unfork(cipher, key, tweak, block, from, want);
-            let metered = meter::unfork(cipher, key, tweak, block, from, want, before);
-            assert_eq!(metered, answer, "{:?}", kind);
-            let number = auraski::unfork(cipher, key, tweak, block, from, want, room);
-            (number, (answer.number, answer.input, answer.other))
+            let metered = [
+                meter::unfork(cipher, key, tweak, block, from, want, before),
+                meter::unfork_prepared(cipher, prepared, tweak, block, from, want, before),
+            ];
+            assert_eq!(metered, [answer; 2], "{:?}", kind);
+            let numbers = [
+                auraski::unfork(cipher, key, tweak, block, from, want, room),
+                auraski::unfork_prepared(cipher, prepared, tweak, block, from, want, other_room),
+            ];
+            (numbers, (answer.number, [answer.input, answer.other]))
         }
     };
-    assert_eq!((number, first, second), expected, "{:?}", kind);
-    [first, second]
+    assert_eq!((numbers[0], by_key), expected, "{:?}", kind);
+    assert_eq!(
+        (numbers[1], with_prepared),
+        expected,
+        "{:?}, prepared",
+        kind
+    );
+    by_key
 }
 
 #[test]

@@ -36,10 +36,8 @@
  *  31  of a length only the low 16 bits count
  *  32  a length is judged before the scheme
  *
- * and nothing with 0. */
+ * or one of prepared.c; and nothing with 0. */
 #include "wrong.h"
-
-#include "auraski.h"
 
 #include <stdlib.h>
 #include <string.h>
@@ -47,7 +45,7 @@
 /* As the top of the known answers tells. */
 enum { LONGEST_ROOM = 1048596 };
 
-static int is_wrong(int number)
+int is_wrong(int number)
 {
     const char *named = getenv("WRONG");
     return named != NULL && atoi(named) == number;

@@ -5,14 +5,14 @@ use borrow.Author.Needs.{needs}
 use Rattle.auraski.proofs.auraski_seal.Statement.{statement}
 use Rattle.auraski.proofs.auraski_seal.Tie as tie
 
-seal-requires : tie.Need-seal-requires
-seal-requires c κs = search needs
+seal-by-key-requires : tie.Need-seal-by-key-requires
+seal-by-key-requires c κs = search needs
 
 same-length : tie.Need-same-length
 same-length c = search needs
 
 returns : tie.Need-returns
-returns c = ap answerIn (c .before .before .seal .ensures)
+returns c = ap answerIn (c .before .before .seal-by-key .ensures)
 
 pub auraski-seal-spec : {M : Type 1} → statement M
-auraski-seal-spec = tie.close (tie.spec seal-requires same-length returns)
+auraski-seal-spec = tie.close (tie.spec seal-by-key-requires same-length returns)

@@ -5,11 +5,11 @@ use borrow.Author.Needs.{needs}
 use Rattle.auraski.proofs.auraski_unfork.Statement.{statement}
 use Rattle.auraski.proofs.auraski_unfork.Tie as tie
 
-unfork-requires : tie.Need-unfork-requires
-unfork-requires c κs = search needs
+unfork-by-key-requires : tie.Need-unfork-by-key-requires
+unfork-by-key-requires c κs = search needs
 
 returns : tie.Need-returns
-returns c = ap backIn (c .before .before .unfork .ensures)
+returns c = ap backIn (c .before .before .unfork-by-key .ensures)
 
 pub auraski-unfork-spec : {M : Type 1} → statement M
-auraski-unfork-spec = tie.close (tie.spec unfork-requires returns)
+auraski-unfork-spec = tie.close (tie.spec unfork-by-key-requires returns)

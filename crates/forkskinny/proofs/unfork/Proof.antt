@@ -1,6 +1,6 @@
 -- `forkskinny::unfork` meets its contract: one return for each case. Assumes nothing.
 use borrow.Author.Tests.{eq-eqb, ne-eqb, lt-ltb, le-ltb}
-use Rattle.forkskinny.specs.Calls.{unforkOf}
+use Rattle.forkskinny.specs.Calls.{unforkWith}
 use borrow.Author.Needs.{needs}
 use Rattle.forkskinny.proofs.unfork.Statement.{statement}
 use Rattle.forkskinny.proofs.unfork.Tie as tie
@@ -9,35 +9,35 @@ unfork-refused-requires : tie.Need-unfork-refused-requires
 unfork-refused-requires c κs = search needs
 
 returns : tie.Need-returns
-unfolding unforkOf
+unfolding unforkWith
 returns c = simp (lt-ltb _ _ (c .before .if1 .taken)) (c .unfork-refused .ensures)
 
 unfork-refused-requires-2 : tie.Need-unfork-refused-requires-2
 unfork-refused-requires-2 c κs = search needs
 
 returns-2 : tie.Need-returns-2
-unfolding unforkOf
+unfolding unforkWith
 returns-2 c = simp (le-ltb _ _ (c .before .before .if1 .left), lt-ltb _ _ (c .before .if2 .taken)) (c .unfork-refused2 .ensures)
 
-unfork-by-requires : tie.Need-unfork-by-requires
-unfork-by-requires c κs = search needs
+unfork-under-requires : tie.Need-unfork-under-requires
+unfork-under-requires c κs = search needs
 
 returns-3 : tie.Need-returns-3
-unfolding unforkOf
-returns-3 c = simp (le-ltb _ _ (c .before .before .before .if1 .left), le-ltb _ _ (c .before .before .if2 .left), eq-eqb _ _ (c .before .if3 .taken)) (c .unfork-by .ensures)
+unfolding unforkWith
+returns-3 c = simp (le-ltb _ _ (c .before .before .before .if1 .left), le-ltb _ _ (c .before .before .if2 .left), eq-eqb _ _ (c .before .if3 .taken)) (c .unfork-under .ensures)
 
-unfork-by-requires-2 : tie.Need-unfork-by-requires-2
-unfork-by-requires-2 c κs = search needs
+unfork-under-requires-2 : tie.Need-unfork-under-requires-2
+unfork-under-requires-2 c κs = search needs
 
 returns-4 : tie.Need-returns-4
-unfolding unforkOf
-returns-4 c = simp (le-ltb _ _ (c .before .before .before .before .if1 .left), le-ltb _ _ (c .before .before .before .if2 .left), ne-eqb _ _ (c .before .before .if3 .left), eq-eqb _ _ (c .before .if4 .taken)) (c .unfork-by2 .ensures)
+unfolding unforkWith
+returns-4 c = simp (le-ltb _ _ (c .before .before .before .before .if1 .left), le-ltb _ _ (c .before .before .before .if2 .left), ne-eqb _ _ (c .before .before .if3 .left), eq-eqb _ _ (c .before .if4 .taken)) (c .unfork-under2 .ensures)
 
 unfork-refused-requires-3 : tie.Need-unfork-refused-requires-3
 unfork-refused-requires-3 c κs = search needs
 
 returns-5 : tie.Need-returns-5
-unfolding unforkOf
+unfolding unforkWith
 returns-5 c = simp (le-ltb _ _ (c .before .before .before .before .if1 .left), le-ltb _ _ (c .before .before .before .if2 .left), ne-eqb _ _ (c .before .before .if3 .left), ne-eqb _ _ (c .before .if4 .left)) (c .unfork-refused3 .ensures)
 
 pub unfork-spec : {M : Type 1} → statement M
@@ -48,9 +48,9 @@ unfork-spec =
     returns
     unfork-refused-requires-2
     returns-2
-    unfork-by-requires
+    unfork-under-requires
     returns-3
-    unfork-by-requires-2
+    unfork-under-requires-2
     returns-4
     unfork-refused-requires-3
     returns-5)

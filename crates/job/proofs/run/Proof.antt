@@ -90,13 +90,13 @@ section-requires-4 c κs =
     let start = judged .before .before .before .before in
     body-whole (start .args .job .now) (judged .before .sound .ensures) (judged .if1 .left) (at-nonce .behind .ensures) (at-header .behind2 .ensures) (at-body .behind3 .ensures)
 
-cast-seal : tie.Need-cast-seal
-cast-seal c =
+cast-seal-by-key : tie.Need-cast-seal-by-key
+cast-seal-by-key c =
     let known = c .before .before .before .before .before .before .before .before .before .before in
     omega (arith, known .shared-slice-known2 .given 0)
 
-seal-requires : tie.Need-seal-requires
-seal-requires c κs = search needs
+seal-by-key-requires : tie.Need-seal-by-key-requires
+seal-by-key-requires c κs = search needs
 
 same-length : tie.Need-same-length
 same-length c = search needs
@@ -111,19 +111,19 @@ returns-2 c =
     let at-nonce = at-header .before in
     let judged = at-nonce .before .before .before .before in
     let start = judged .before .before .before .before in
-    after-call .seal .ensures
+    after-call .seal-by-key .ensures
     ∙ sealing (start .args .job .now) (judged .before .sound .ensures) (judged .if1 .left)
     (at-nonce .behind .ensures) (at-header .behind2 .ensures) (at-body .behind3 .ensures)
     (all .before .before .before .section .ensures) (all .before .before .section2 .ensures) (all .before .section3 .ensures) (all .section4 .ensures)
     _ (chosen .if2 .taken)
 
-cast-open : tie.Need-cast-open
-cast-open c =
+cast-open-by-key : tie.Need-cast-open-by-key
+cast-open-by-key c =
     let known = c .before .before .before .before .before .before .before .before .before .before in
     omega (arith, known .shared-slice-known2 .given 0)
 
-open-requires : tie.Need-open-requires
-open-requires c κs = search needs
+open-by-key-requires : tie.Need-open-by-key-requires
+open-by-key-requires c κs = search needs
 
 same-length-2 : tie.Need-same-length-2
 same-length-2 c = search needs
@@ -138,7 +138,7 @@ returns-3 c =
     let at-nonce = at-header .before in
     let judged = at-nonce .before .before .before .before in
     let start = judged .before .before .before .before in
-    after-call .open .ensures
+    after-call .open-by-key .ensures
     ∙ opening (start .args .job .now) (judged .before .sound .ensures) (judged .if1 .left)
     (at-nonce .behind .ensures) (at-header .behind2 .ensures) (at-body .behind3 .ensures)
     (all .before .before .before .section .ensures) (all .before .before .section2 .ensures) (all .before .section3 .ensures) (all .section4 .ensures)
@@ -162,11 +162,11 @@ run-spec =
     section-requires-2
     section-requires-3
     section-requires-4
-    cast-seal
-    seal-requires
+    cast-seal-by-key
+    seal-by-key-requires
     same-length
     returns-2
-    cast-open
-    open-requires
+    cast-open-by-key
+    open-by-key-requires
     same-length-2
     returns-3)

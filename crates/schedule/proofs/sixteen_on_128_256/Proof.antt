@@ -1,14 +1,13 @@
--- `schedule::sixteen_on_128_256` meets its contract: what stands stepped eight times is sixteen rounds on, and the eight calls lay sixteen
--- keys. Assumes nothing.
-use mathlib.Core.Path.{sym, _∙_}
-use Prim.Native.Nat.{_+_}
+-- `schedule::sixteen_on_128_256` meets its contract: eight steps of the tweak's cells and eight calls are a turn. Assumes nothing.
+use mathlib.Core.Path.{refl}
 use native.Mathlib.Omega.{arith}
 use borrow.Author.Needs.{needs}
-use Rattle.cells.specs.Cells.{Byte, Two}
-use Rattle.schedule.proofs.Keys.{laid-sixteen}
-use Rattle.schedule.proofs.Sixteen.{sixteen}
+use Rattle.schedule.proofs.Keys.{turn}
 use Rattle.schedule.proofs.sixteen_on_128_256.Statement.{statement}
 use Rattle.schedule.proofs.sixteen_on_128_256.Tie as tie
+
+add-eight-steps-128-256 : tie.Need-add-eight-steps-128-256
+add-eight-steps-128-256 c = search needs
 
 eight-steps-128-256-requires : tie.Need-eight-steps-128-256-requires
 eight-steps-128-256-requires c κs = search needs
@@ -64,8 +63,8 @@ lay-two-requires-8 c κs =
     let a = b .before .before .before .before .before .before .before .before .before .before .before .before .before in
     omega (arith, a .pre .0)
 
-add-t34 : tie.Need-add-t34
-add-t34 c =
+add-t11 : tie.Need-add-t11
+add-t11 c =
     let b = c .before .before .before .before .before .before .before .before .before .before .before .before .before in
     let a = b .before .before .before .before .before .before .before .before .before .before .before .before .before .before in
     omega (arith, a .pre .0)
@@ -81,18 +80,15 @@ returns c =
     let c₁ = c₂ .before .before .before in
     let c₀ = c₁ .before .before .before in
     let a = c₀ .before .before .before in
-    let t = a .args .t in
-    let (e, s) = c₀ .eight-steps-128-256 .ensures in (
-      (λ i. record { cells = e i; at = t .at + 16 }) ∙ sym (sixteen Byte Two t),
-      laid-sixteen s (omega (arith, a .pre .0, a .pre .1))
-          (c₁ .lay-two .ensures) (c₂ .lay-two2 .ensures) (c₃ .lay-two3 .ensures) (c₄ .lay-two4 .ensures)
-          (c₅ .lay-two5 .ensures) (c₆ .lay-two6 .ensures) (c₇ .lay-two7 .ensures) (c .lay-two8 .ensures),
-    )
+    turn (a .pre) refl (c₀ .eight-steps-128-256 .ensures)
+    (c₁ .lay-two .ensures) (c₂ .lay-two2 .ensures) (c₃ .lay-two3 .ensures) (c₄ .lay-two4 .ensures)
+    (c₅ .lay-two5 .ensures) (c₆ .lay-two6 .ensures) (c₇ .lay-two7 .ensures) (c .lay-two8 .ensures)
 
 pub sixteen-on-128-256-spec : {M : Type 1} → statement M
 sixteen-on-128-256-spec =
     tie.close
     (tie.spec
+    add-eight-steps-128-256
     eight-steps-128-256-requires
     array-copy-out-lay-two
     lay-two-requires
@@ -110,5 +106,5 @@ sixteen-on-128-256-spec =
     lay-two-requires-7
     array-copy-out-lay-two-8
     lay-two-requires-8
-    add-t34
+    add-t11
     returns)

@@ -1,8 +1,9 @@
 -- `sealing::open` meets its contract: under the scheme that the number names. Assumes nothing.
 use mathlib.Core.Path.{sym, ap, _∙_}
+use Rattle.prepared.specs.Prepared.{keyOf}
 use Rattle.sealing.specs.declared.schemes.Scheme.{Scheme}
 use Rattle.sealing.specs.declared.schemes.Named.{Named}
-use Rattle.sealing.specs.Calls.{under, openUnder, openOf}
+use Rattle.sealing.specs.Calls.{under, openUnder, openWith}
 use Rattle.sealing.proofs.Table.{named-fits}
 use borrow.Author.Needs.{needs}
 use Rattle.sealing.proofs.open.Statement.{statement}
@@ -14,8 +15,8 @@ scheme-of-requires c κs = search needs
 enum-known-named : tie.Need-enum-known-named
 enum-known-named c = search needs
 
-open-under-requires : tie.Need-open-under-requires
-open-under-requires c κs =
+open-with-requires : tie.Need-open-with-requires
+open-with-requires c κs =
     let after-named = c .before .before in
     let after-scheme-of = after-named .before .before in
     named-fits _ _ (sym (after-scheme-of .scheme-of .ensures) ∙ after-named .named .given .1)
@@ -27,26 +28,26 @@ same-length : tie.Need-same-length
 same-length c = search needs
 
 returns : tie.Need-returns
-unfolding openOf
+unfolding openWith
 returns c =
-    let after-open-under = c .before .before in
-    let after-named = after-open-under .before .before .before in
+    let after-open-with = c .before .before in
+    let after-named = after-open-with .before .before .before in
     let after-scheme-of = after-named .before .before in
-    let start = after-scheme-of .before .before .before .before .before .before in
+    let start = after-scheme-of .before .before .before .before .before in
     let a = start .args in
-    after-open-under .open-under .ensures
+    after-open-with .open-with .ensures
     ∙ sym (ap (λ (m : Named). under m
-    (λ (s : Scheme). openUnder s (a .key .now) (a .nonce .now) (a .header .now) (a .sealed .now) (a .room .now)) (a .room .now))
+    (λ (s : Scheme). openUnder s (keyOf (s .cipher) (a .key)) (a .nonce .now) (a .header .now) (a .sealed .now) (a .room .now)) (a .room .now))
     (sym (after-scheme-of .scheme-of .ensures) ∙ after-named .named .given .1))
 
 returns-2 : tie.Need-returns-2
-unfolding openOf
+unfolding openWith
 returns-2 c =
     let after-scheme-of = c .before .before in
-    let start = after-scheme-of .before .before .before .before .before .before in
+    let start = after-scheme-of .before .before .before .before .before in
     let a = start .args in
     sym (ap (λ (m : Named). under m
-    (λ (s : Scheme). openUnder s (a .key .now) (a .nonce .now) (a .header .now) (a .sealed .now) (a .room .now)) (a .room .now))
+    (λ (s : Scheme). openUnder s (keyOf (s .cipher) (a .key)) (a .nonce .now) (a .header .now) (a .sealed .now) (a .room .now)) (a .room .now))
     (sym (after-scheme-of .scheme-of .ensures) ∙ c .enum-told .given .1))
 
 pub open-spec : {M : Type 1} → statement M
@@ -55,7 +56,7 @@ open-spec =
     (tie.spec
     scheme-of-requires
     enum-known-named
-    open-under-requires
+    open-with-requires
     enum-told
     same-length
     returns

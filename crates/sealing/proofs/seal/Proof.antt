@@ -1,8 +1,9 @@
 -- `sealing::seal` meets its contract: under the scheme that the number names. Assumes nothing.
 use mathlib.Core.Path.{sym, ap, _∙_}
+use Rattle.prepared.specs.Prepared.{keyOf}
 use Rattle.sealing.specs.declared.schemes.Scheme.{Scheme}
 use Rattle.sealing.specs.declared.schemes.Named.{Named}
-use Rattle.sealing.specs.Calls.{under, sealUnder, sealOf}
+use Rattle.sealing.specs.Calls.{under, sealUnder, sealWith}
 use Rattle.sealing.proofs.Table.{named-fits}
 use borrow.Author.Needs.{needs}
 use Rattle.sealing.proofs.seal.Statement.{statement}
@@ -14,8 +15,8 @@ scheme-of-requires c κs = search needs
 enum-known-named : tie.Need-enum-known-named
 enum-known-named c = search needs
 
-seal-under-requires : tie.Need-seal-under-requires
-seal-under-requires c κs =
+seal-with-requires : tie.Need-seal-with-requires
+seal-with-requires c κs =
     let after-named = c .before .before in
     let after-scheme-of = after-named .before .before in
     named-fits _ _ (sym (after-scheme-of .scheme-of .ensures) ∙ after-named .named .given .1)
@@ -27,26 +28,26 @@ same-length : tie.Need-same-length
 same-length c = search needs
 
 returns : tie.Need-returns
-unfolding sealOf
+unfolding sealWith
 returns c =
-    let after-seal-under = c .before .before in
-    let after-named = after-seal-under .before .before .before in
+    let after-seal-with = c .before .before in
+    let after-named = after-seal-with .before .before .before in
     let after-scheme-of = after-named .before .before in
-    let start = after-scheme-of .before .before .before .before .before .before in
+    let start = after-scheme-of .before .before .before .before .before in
     let a = start .args in
-    after-seal-under .seal-under .ensures
+    after-seal-with .seal-with .ensures
     ∙ sym (ap (λ (m : Named). under m
-    (λ (s : Scheme). sealUnder s (a .key .now) (a .nonce .now) (a .header .now) (a .body .now) (a .room .now)) (a .room .now))
+    (λ (s : Scheme). sealUnder s (keyOf (s .cipher) (a .key)) (a .nonce .now) (a .header .now) (a .body .now) (a .room .now)) (a .room .now))
     (sym (after-scheme-of .scheme-of .ensures) ∙ after-named .named .given .1))
 
 returns-2 : tie.Need-returns-2
-unfolding sealOf
+unfolding sealWith
 returns-2 c =
     let after-scheme-of = c .before .before in
-    let start = after-scheme-of .before .before .before .before .before .before in
+    let start = after-scheme-of .before .before .before .before .before in
     let a = start .args in
     sym (ap (λ (m : Named). under m
-    (λ (s : Scheme). sealUnder s (a .key .now) (a .nonce .now) (a .header .now) (a .body .now) (a .room .now)) (a .room .now))
+    (λ (s : Scheme). sealUnder s (keyOf (s .cipher) (a .key)) (a .nonce .now) (a .header .now) (a .body .now) (a .room .now)) (a .room .now))
     (sym (after-scheme-of .scheme-of .ensures) ∙ c .enum-told .given .1))
 
 pub seal-spec : {M : Type 1} → statement M
@@ -55,7 +56,7 @@ seal-spec =
     (tie.spec
     scheme-of-requires
     enum-known-named
-    seal-under-requires
+    seal-with-requires
     enum-told
     same-length
     returns

@@ -1,9 +1,10 @@
 -- `sealing::seal_under` meets its contract: refused by a check, or done. Assumes nothing.
-use mathlib.Core.Path.{sym, _∙_}
+use mathlib.Core.Path.{refl, sym, _∙_}
 use native.Mathlib.Omega.{arith}
 use Rattle.ciphers.proofs.Laws.{block-most}
+use Rattle.prepared.specs.Prepared.{keyIn}
 use Rattle.sealing.proofs.Passed.{check-passed}
-use Rattle.sealing.proofs.Answers.{key-same, seal-refuses, seal-does}
+use Rattle.sealing.proofs.Answers.{key-length, seal-refuses, seal-does}
 use borrow.Author.Needs.{needs}
 use Rattle.sealing.proofs.seal_under.Statement.{statement}
 use Rattle.sealing.proofs.seal_under.Tie as tie
@@ -13,55 +14,48 @@ block-of-requires c κs = search needs
 
 check-requires : tie.Need-check-requires
 check-requires c κs =
-    let start = c .before .before .before .before .before .before in
+    let start = c .before .before .before .before .before in
     let a = start .args in
-    (start .pre, omega (arith, c .block-of .ensures, block-most (a .s .cipher)))
+    (start .pre .0, omega (arith, c .block-of .ensures, block-most (a .s .cipher)))
 
 returns : tie.Need-returns
 returns c =
     let after-block-of = c .before .before in
-    let start = after-block-of .before .before .before .before .before .before in
+    let start = after-block-of .before .before .before .before .before in
     let a = start .args in
-    seal-refuses (a .s) (a .key .now) (a .nonce .now) (a .header .now) _ (after-block-of .block-of .ensures) _ (a .body .now) _
-    (c .before .check .ensures) (c .if1 .taken)
+    seal-refuses (a .s) (keyIn (a .s .cipher) (a .share .now)) (a .nonce .now) (a .header .now) _ (after-block-of .block-of .ensures) _ (a .body .now) _
+    (key-length (a .s) (a .share .now) _ _ _ _ _ _ _ (start .pre .0) (c .before .check .ensures)) (c .if1 .taken)
 
 rounds-requires : tie.Need-rounds-requires
 rounds-requires c κs =
-    let start = c .before .before .before .before .before .before .before .before in
+    let start = c .before .before .before .before .before .before .before in
     let a = start .args in
     let p = check-passed (a .s) _ _ _ _ _ _ _ (sym (c .before .check .ensures) ∙ c .if1 .left) in
-    (omega (arith, p .fit .header-fits, start .pre .header), omega (arith, p .body-fits, start .pre .body))
-
-front-requires : tie.Need-front-requires
-front-requires c κs =
-    let test = c .before in
-    let start = test .before .before .before .before .before .before .before .before in
-    let a = start .args in
-    let p = check-passed (a .s) _ _ _ _ _ _ _ (sym (test .before .check .ensures) ∙ test .if1 .left) in
-    (omega arith, omega (arith, p .fit .key-fits, start .pre .key))
+    (omega (arith, p .fit .header-fits, start .pre .0 .header), omega (arith, p .body-fits, start .pre .0 .body))
 
 seal-requires : tie.Need-seal-requires
 seal-requires c κs =
-    let test = c .before .before .before in
+    let test = c .before .before in
     let after-check = test .before in
     let after-block-of = after-check .before in
-    let start = after-block-of .before .before .before .before .before .before in
+    let start = after-block-of .before .before .before .before .before in
     let a = start .args in
     let p = check-passed (a .s) _ _ _ _ _ _ _ (sym (after-check .check .ensures) ∙ test .if1 .left) in (
-      record { fills = omega (arith, p .fit .nonce-fits, start .pre .nonce); few = omega (arith, p .fit .header-fits, start .pre .header) },
-      record { fills = omega (arith, p .fit .nonce-fits, start .pre .nonce); few = omega (arith, p .body-fits, start .pre .body) },
+      record { fills = omega (arith, p .fit .nonce-fits, start .pre .0 .nonce); few = omega (arith, p .fit .header-fits, start .pre .0 .header) },
+      record { fills = omega (arith, p .fit .nonce-fits, start .pre .0 .nonce); few = omega (arith, p .body-fits, start .pre .0 .body) },
       omega (arith, p .room-fits, after-block-of .block-of .ensures),
+      start .pre .1,
     )
 
 add-t14 : tie.Need-add-t14
 add-t14 c =
-    let test = c .before .before .before .before .before .before in
+    let test = c .before .before .before .before .before in
     let after-check = test .before in
     let after-block-of = after-check .before in
-    let start = after-block-of .before .before .before .before .before .before in
+    let start = after-block-of .before .before .before .before .before in
     let a = start .args in
     let p = check-passed (a .s) _ _ _ _ _ _ _ (sym (after-check .check .ensures) ∙ test .if1 .left) in
-    omega (arith, p .body-fits, start .pre .body, after-block-of .block-of .ensures, block-most (a .s .cipher))
+    omega (arith, p .body-fits, start .pre .0 .body, after-block-of .block-of .ensures, block-most (a .s .cipher))
 
 same-length : tie.Need-same-length
 same-length c = search needs
@@ -69,17 +63,14 @@ same-length c = search needs
 returns-2 : tie.Need-returns-2
 returns-2 c =
     let after-seal = c .before .before in
-    let after-front = after-seal .before .before in
-    let after-rounds = after-front .before in
+    let after-rounds = after-seal .before .before in
     let test = after-rounds .before in
     let after-check = test .before in
     let after-block-of = after-check .before in
-    let start = after-block-of .before .before .before .before .before .before in
+    let start = after-block-of .before .before .before .before .before in
     let a = start .args in
-    let p = check-passed (a .s) _ _ _ _ _ _ _ (sym (after-check .check .ensures) ∙ test .if1 .left) in
-    seal-does (a .s) (a .key .now) (a .nonce .now) (a .header .now) _ (after-block-of .block-of .ensures) _ (a .body .now)
-    (a .room .now) (after-check .check .ensures) (test .if1 .left) _ _
-    (key-same (a .key .now) _ (omega (arith, p .fit .key-fits, start .pre .key)) (after-front .front .ensures))
+    seal-does (a .s) (keyIn (a .s .cipher) (a .share .now)) (a .nonce .now) (a .header .now) _ (after-block-of .block-of .ensures) _ (a .body .now)
+    (a .room .now) (key-length (a .s) (a .share .now) _ _ _ _ _ _ _ (start .pre .0) (after-check .check .ensures)) (test .if1 .left) _ _ refl
     (after-seal .seal .ensures) _ (after-rounds .rounds .ensures)
 
 pub seal-under-spec : {M : Type 1} → statement M
@@ -90,7 +81,6 @@ seal-under-spec =
     check-requires
     returns
     rounds-requires
-    front-requires
     seal-requires
     add-t14
     same-length

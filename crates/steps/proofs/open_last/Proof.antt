@@ -6,6 +6,7 @@ use Rattle.ciphers.specs.Ciphers.{blockOf}
 use Rattle.steps.specs.declared.Kind.{Kind}
 use Rattle.steps.specs.Modes.{modeOf, tailOf}
 use Rattle.steps.specs.Steps.{Paired}
+use Rattle.prepared.specs.Prepared.{keyIn}
 use borrow.Author.Needs.{needs}
 use Rattle.steps.proofs.open_last.Statement.{statement}
 use Rattle.steps.proofs.open_last.Tie as tie
@@ -15,10 +16,10 @@ enum-told c = search needs
 
 open-last-requires : tie.Need-open-last-requires
 open-last-requires c κs =
-    let start = c .before .before .before in (
-      subst (λ (k : Kind). length (start .args .nonce .now) + tailOf k ≡ blockOf (start .args .c)) (c .enum-told .given .1)
-          (start .pre .0),
+    let start = c .before .before .before .before in (
+      subst (λ (k : Kind). length (start .args .nonce .now) + tailOf k ≡ blockOf (start .args .c)) (c .before .enum-told .given .1) (start .pre .0),
       start .pre .1,
+      start .pre .2,
     )
 
 enum-told-2 : tie.Need-enum-told-2
@@ -26,33 +27,24 @@ enum-told-2 c = search needs
 
 open-last-requires-2 : tie.Need-open-last-requires-2
 open-last-requires-2 c κs =
-    let start = c .before .before .before in
-    subst (λ (k : Kind). length (start .args .nonce .now) + tailOf k ≡ blockOf (start .args .c)) (c .enum-told2 .given .1)
-    (start .pre .0)
+    let start = c .before .before .before .before in (
+      subst (λ (k : Kind). length (start .args .nonce .now) + tailOf k ≡ blockOf (start .args .c)) (c .before .enum-told2 .given .1) (start .pre .0),
+      start .pre .2,
+    )
 
 returns : tie.Need-returns
 returns c =
-    let start = c .before .before .before .before in
-    let a = start .args in
-    subst⁻¹
-    (λ (k : Kind).
-    Paired k (blockOf (a .c)) (modeOf k (a .c) (a .key) (a .nonce .now) .unfin (a .full))
-    (modeOf k (a .c) (a .key) (a .nonce .now) .untag (a .full)) (a .s) (a .x)
-    (c .open-last .result .first) (c .open-last .result .second))
-    (c .before .enum-told .given .1)
-    (c .open-last .ensures)
+    let a = c .before .before .before .before .before .args in (
+      subst⁻¹ (λ (k : Kind). Paired k (blockOf (a .c)) (modeOf k (a .c) (keyIn (a .c) (a .share .now)) (a .nonce .now) .unfin (a .full)) (modeOf k (a .c) (keyIn (a .c) (a .share .now)) (a .nonce .now) .untag (a .full)) (a .s) (a .x) (c .open-last .result .first) (c .open-last .result .second)) (c .before .before .enum-told .given .1) (c .open-last .ensures .0),
+      c .open-last .ensures .1,
+    )
 
 returns-2 : tie.Need-returns-2
 returns-2 c =
-    let start = c .before .before .before .before in
-    let a = start .args in
-    subst⁻¹
-    (λ (k : Kind).
-    Paired k (blockOf (a .c)) (modeOf k (a .c) (a .key) (a .nonce .now) .unfin (a .full))
-    (modeOf k (a .c) (a .key) (a .nonce .now) .untag (a .full)) (a .s) (a .x)
-    (c .open-last2 .result .first) (c .open-last2 .result .second))
-    (c .before .enum-told2 .given .1)
-    (c .open-last2 .ensures)
+    let a = c .before .before .before .before .before .args in (
+      subst⁻¹ (λ (k : Kind). Paired k (blockOf (a .c)) (modeOf k (a .c) (keyIn (a .c) (a .share .now)) (a .nonce .now) .unfin (a .full)) (modeOf k (a .c) (keyIn (a .c) (a .share .now)) (a .nonce .now) .untag (a .full)) (a .s) (a .x) (c .open-last2 .result .first) (c .open-last2 .result .second)) (c .before .before .enum-told2 .given .1) (c .open-last2 .ensures .0),
+      c .open-last2 .ensures .1,
+    )
 
 pub open-last-spec : {M : Type 1} → statement M
 open-last-spec =

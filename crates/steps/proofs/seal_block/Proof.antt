@@ -6,6 +6,7 @@ use Rattle.ciphers.specs.Ciphers.{blockOf}
 use Rattle.steps.specs.declared.Kind.{Kind}
 use Rattle.steps.specs.Modes.{modeOf, tailOf}
 use Rattle.steps.specs.Steps.{Stepped}
+use Rattle.prepared.specs.Prepared.{keyIn}
 use borrow.Author.Needs.{needs}
 use Rattle.steps.proofs.seal_block.Statement.{statement}
 use Rattle.steps.proofs.seal_block.Tie as tie
@@ -15,10 +16,10 @@ enum-told c = search needs
 
 seal-block-requires : tie.Need-seal-block-requires
 seal-block-requires c κs =
-    let start = c .before .before .before in (
-      subst (λ (k : Kind). length (start .args .nonce .now) + tailOf k ≡ blockOf (start .args .c)) (c .enum-told .given .1)
-          (start .pre .0),
+    let start = c .before .before .before .before in (
+      subst (λ (k : Kind). length (start .args .nonce .now) + tailOf k ≡ blockOf (start .args .c)) (c .before .enum-told .given .1) (start .pre .0),
       start .pre .1,
+      start .pre .2,
     )
 
 enum-told-2 : tie.Need-enum-told-2
@@ -26,33 +27,24 @@ enum-told-2 c = search needs
 
 seal-block-requires-2 : tie.Need-seal-block-requires-2
 seal-block-requires-2 c κs =
-    let start = c .before .before .before in
-    subst (λ (k : Kind). length (start .args .nonce .now) + tailOf k ≡ blockOf (start .args .c)) (c .enum-told2 .given .1)
-    (start .pre .0)
+    let start = c .before .before .before .before in (
+      subst (λ (k : Kind). length (start .args .nonce .now) + tailOf k ≡ blockOf (start .args .c)) (c .before .enum-told2 .given .1) (start .pre .0),
+      start .pre .2,
+    )
 
 returns : tie.Need-returns
 returns c =
-    let start = c .before .before .before .before in
-    let a = start .args in
-    subst⁻¹
-    (λ (k : Kind).
-    Stepped k (blockOf (a .c)) (modeOf k (a .c) (a .key) (a .nonce .now) .out) (modeOf k (a .c) (a .key) (a .nonce .now) .next)
-    (a .s) (a .x)
-    (c .seal-block .result .out) (c .seal-block .result .next))
-    (c .before .enum-told .given .1)
-    (c .seal-block .ensures)
+    let a = c .before .before .before .before .before .args in (
+      subst⁻¹ (λ (k : Kind). Stepped k (blockOf (a .c)) (modeOf k (a .c) (keyIn (a .c) (a .share .now)) (a .nonce .now) .out) (modeOf k (a .c) (keyIn (a .c) (a .share .now)) (a .nonce .now) .next) (a .s) (a .x) (c .seal-block .result .out) (c .seal-block .result .next)) (c .before .before .enum-told .given .1) (c .seal-block .ensures .0),
+      c .seal-block .ensures .1,
+    )
 
 returns-2 : tie.Need-returns-2
 returns-2 c =
-    let start = c .before .before .before .before in
-    let a = start .args in
-    subst⁻¹
-    (λ (k : Kind).
-    Stepped k (blockOf (a .c)) (modeOf k (a .c) (a .key) (a .nonce .now) .out) (modeOf k (a .c) (a .key) (a .nonce .now) .next)
-    (a .s) (a .x)
-    (c .seal-block2 .result .out) (c .seal-block2 .result .next))
-    (c .before .enum-told2 .given .1)
-    (c .seal-block2 .ensures)
+    let a = c .before .before .before .before .before .args in (
+      subst⁻¹ (λ (k : Kind). Stepped k (blockOf (a .c)) (modeOf k (a .c) (keyIn (a .c) (a .share .now)) (a .nonce .now) .out) (modeOf k (a .c) (keyIn (a .c) (a .share .now)) (a .nonce .now) .next) (a .s) (a .x) (c .seal-block2 .result .out) (c .seal-block2 .result .next)) (c .before .before .enum-told2 .given .1) (c .seal-block2 .ensures .0),
+      c .seal-block2 .ensures .1,
+    )
 
 pub seal-block-spec : {M : Type 1} → statement M
 seal-block-spec =

@@ -1,9 +1,9 @@
-//! One call made by the library, by the meter and by the second program, and
-//! compared.
+//! One call made by the library and by the meter, each by key and with a prepared
+//! key, and by the second program, and compared.
 
 use compare::records::{row_of, Call, Direction};
 use compare::sealing::{Answer, Rounds, DONE, NOT_AUTHENTIC, NUMBERS};
-use compare::{auraski, meter, sealing};
+use compare::{auraski, meter, prepared, sealing};
 
 /// Bytes behind the room that are not lent and must stay.
 const GUARD: usize = 16;
@@ -60,6 +60,22 @@ fn assert_same(ours: &[u8], second: &[u8], call: &Call) {
     }
 }
 
+/// With the key prepared, library and meter answer as by key and leave the same
+/// room (C-16). A key that is refused there gives one that is refused here.
+fn compare_prepared(call: &Call, answer: Answer, before: &[u8], second: &[u8]) {
+    let (number, key) = auraski::prepare(call.cipher(), &call.key);
+    assert_eq!(number, prepared::prepare(call.cipher(), &call.key).0);
+    let [mut ours, mut metered] = [(); 2].map(|_| before.to_vec());
+    let calls = [auraski::seal_prepared, auraski::open_prepared];
+    let told = call.make_prepared(calls, &key, &mut ours);
+    let calls = [meter::seal_prepared, meter::open_prepared];
+    let counted = call.make_prepared(calls, &key, &mut metered);
+    assert_eq!(told, answer.told(), "prepared: {}", description(call));
+    assert_eq!(counted, answer, "prepared: {}", description(call));
+    assert_same(&ours, second, call);
+    assert_same(&metered, second, call);
+}
+
 fn description(call: &Call) -> String {
     format!(
         "{:?} under scheme {}: key of {} bytes, nonce {}, header {}, text {}, room {}",
@@ -93,6 +109,7 @@ impl Tally {
         assert_eq!(counted, answer, "{}", description(call));
         assert_same(&ours, &second, call);
         assert_same(&metered, &second, call);
+        compare_prepared(call, answer, &before, &second);
         let fits = fits_the_table(call, answer, &before, &ours) && fits_the_lengths(call, answer);
         assert!(fits, "{}", description(call));
         self.count(call.direction, answer.number);

@@ -1,9 +1,11 @@
 //! Seal, open and view of the second program, against themselves and against
-//! documents 01 and 001; and their rounds, against C-13.
+//! documents 01 and 001; their rounds, against C-13; and prepared keys, those of
+//! the block calls too, against C-16.
 
 mod damage;
 mod facts;
 mod figures;
+mod prepared;
 mod refusals;
 mod round_trips;
 mod rounds;

@@ -11,16 +11,15 @@ use Rattle.steps.proofs.paef.added.Tie as tie
 xored-requires : tie.Need-xored-requires
 xored-requires c κs = search needs
 
-add-t7 : tie.Need-add-t7
-add-t7 c = search needs
+add-t8 : tie.Need-add-t8
+add-t8 c = search needs
 
 returns : tie.Need-returns
 unfolding addedOf
 returns c =
-    let start = c .before .before .before .before .before in
-    let a = start .args in
-    ap (λ (l : List ℕ). record { out = a .p .first; next = record { mask = l; number = a .s .number + 1; first = false } })
+    let a = c .before .before .before .before .before .before .args in
+    ap (λ (l : List ℕ). record { out = a .p .first; next = record { mask = l; number = a .s .number + 1; first = false; kept = a .p .kept } })
     (c .before .xored .ensures)
 
 pub added-spec : {M : Type 1} → statement M
-added-spec = tie.close (tie.spec xored-requires add-t7 returns)
+added-spec = tie.close (tie.spec xored-requires add-t8 returns)

@@ -11,14 +11,15 @@ use Rattle.steps.proofs.paef.head.Tie as tie
 head-sum-requires : tie.Need-head-sum-requires
 head-sum-requires c κs = search needs
 
-add-t7 : tie.Need-add-t7
-add-t7 c = search needs
+add-t11 : tie.Need-add-t11
+add-t11 c = search needs
 
 returns : tie.Need-returns
 unfolding paef
 returns c =
-    let a = c .before .before .before .args in
-    (ap (λ (l : List ℕ). record { sum = l; number = a .s .number + 1 }) (c .before .head-sum .ensures), omega arith)
+    let h = c .before .before .before .head-sum .ensures in
+    let a = c .before .before .before .before .before .before .args in
+    (ap (λ (l : List ℕ). record { sum = l; number = a .s .number + 1 }) (h .0), omega arith, h .1)
 
 pub head-spec : {M : Type 1} → statement M
-head-spec = tie.close (tie.spec head-sum-requires add-t7 returns)
+head-spec = tie.close (tie.spec head-sum-requires add-t11 returns)

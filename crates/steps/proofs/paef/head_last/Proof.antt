@@ -9,6 +9,7 @@ use Rattle.modes.specs.Paef.{headSum, paef}
 use Rattle.steps.specs.declared.Kind.the-variants.{Paef}
 use Rattle.steps.specs.Skinny.{skinny}
 use Rattle.steps.specs.Modes.{stateOf}
+use Rattle.prepared.specs.Prepared.{keyIn}
 use borrow.Author.Needs.{needs}
 use Rattle.steps.proofs.paef.head_last.Statement.{statement}
 use Rattle.steps.proofs.paef.head_last.Tie as tie
@@ -22,14 +23,15 @@ head-sum-requires c κs = search needs
 returns : tie.Need-returns
 unfolding paef
 returns c =
-    let start = c .before .before .before in
-    let a = start .args in
+    let h = c .before .before .head-sum .ensures in
+    let a = c .before .before .before .before .before .before .args in
     let n = blockOf (a .c) in (
       ap (λ (l : List ℕ). record { sum = l; number = 1 })
-          (c .head-sum .ensures
-          ∙ ap (λ (f : ℕ). headSum n (skinny (a .c) (a .key)) (a .nonce .now) f (stateOf Paef n (a .s)) (take n (a .x)))
-          (c .before .head-flag .ensures .0)),
+          (h .0
+          ∙ ap (λ (f : ℕ). headSum n (skinny (a .c) (keyIn (a .c) (a .share .now))) (a .nonce .now) f (stateOf Paef n (a .s)) (take n (a .x)))
+          (c .before .before .before .before .head-flag .ensures .0)),
       omega arith,
+      h .1,
     )
 
 pub head-last-spec : {M : Type 1} → statement M

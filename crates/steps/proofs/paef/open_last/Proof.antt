@@ -15,11 +15,13 @@ back-requires c κs = search needs
 
 returns : tie.Need-returns
 returns c =
-    let after-xored = c .before .before in
-    let start = after-xored .before .before .before in
-    let a = start .args in
-    unlast-paired _ _ _ (a .full) _ (c .before .body-flag .ensures .0) (a .s) (a .x) _ (after-xored .xored .ensures) _
-    (c .back .ensures)
+    let after-back = c in
+    let after-body-flag = after-back .before in
+    let after-xored = after-body-flag .before .before in
+    let a = after-xored .before .before .before .args in (
+      unlast-paired _ _ _ (a .full) _ (after-body-flag .body-flag .ensures .0) (a .s) (a .x) _ (after-xored .xored .ensures) (after-back .back .result) (after-back .back .ensures .0),
+      after-back .back .ensures .1,
+    )
 
 pub open-last-spec : {M : Type 1} → statement M
 open-last-spec = tie.close (tie.spec xored-requires body-flag-requires back-requires returns)

@@ -16,12 +16,12 @@ xored-requires c κs = search needs
 
 returns : tie.Need-returns
 returns c =
-    let after-both = c .before .before .before .before in
+    let after-both = c .before .before .before .before .before in
     let after-body-flag = after-both .before in
-    let start = after-body-flag .before .before in
-    let a = start .args in
-    last-paired _ _ _ (a .full) _ (after-body-flag .body-flag .ensures .0) (a .s) (a .x) _ (after-both .both .ensures) _
-    (c .xored .ensures) (omega (arith, c .xored .ok))
+    let a = after-body-flag .before .before .before .args in (
+      last-paired _ _ _ (a .full) _ (after-body-flag .body-flag .ensures .0) (a .s) (a .x) (after-both .both .result) (after-both .both .ensures .0) _ (c .xored .ensures) (omega (arith, c .xored .ok)),
+      after-both .both .ensures .1,
+    )
 
 pub seal-last-spec : {M : Type 1} → statement M
 seal-last-spec = tie.close (tie.spec body-flag-requires both-requires xored-requires returns)

@@ -2,6 +2,7 @@
 use native.Mathlib.Omega.{arith}
 use Rattle.ciphers.proofs.Laws.{block-most}
 use Rattle.steps.proofs.SaefSteps.{back-paired}
+use Rattle.prepared.specs.Prepared.{keyIn}
 use borrow.Author.Needs.{needs}
 use Rattle.steps.proofs.saef.back.Statement.{statement}
 use Rattle.steps.proofs.saef.back.Tie as tie
@@ -12,18 +13,17 @@ tweak-requires c κs = (omega (arith, c .before .pre .0, block-most (c .before .
 xored-requires : tie.Need-xored-requires
 xored-requires c κs = search needs
 
-unfork-by-requires : tie.Need-unfork-by-requires
-unfork-by-requires c κs = search needs
+unfork-on-requires : tie.Need-unfork-on-requires
+unfork-on-requires c κs = search needs
 
 returns : tie.Need-returns
 returns c =
-    let after-unfork-by = c .before .before in
-    let after-xored = after-unfork-by .before in
-    let after-tweak = after-xored .before .before in
-    let start = after-tweak .before .before in
-    let a = start .args in
-    back-paired (a .c) (a .key) (a .nonce .now) (a .flag) (a .s) (a .x) _ _ (start .pre .0) (after-tweak .tweak .ensures)
-    (after-xored .xored .ensures) _ (after-unfork-by .unfork-by .ensures)
+    let on = c .before .before .before .before in
+    let start = c .before .before .before .before .before .before .before .before .before .before .before in
+    let a = start .args in (
+      back-paired (a .c) (keyIn (a .c) (a .share .now)) (a .nonce .now) (a .flag) (a .s) (a .x) _ _ (start .pre .0) (c .before .before .before .before .before .before .before .before .before .tweak .ensures) (c .before .before .before .before .before .before .before .xored .ensures) _ (on .unfork-on .ensures .0),
+      on .unfork-on .ensures .1,
+    )
 
 pub back-spec : {M : Type 1} → statement M
-back-spec = tie.close (tie.spec tweak-requires xored-requires unfork-by-requires returns)
+back-spec = tie.close (tie.spec tweak-requires xored-requires unfork-on-requires returns)

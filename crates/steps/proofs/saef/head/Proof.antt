@@ -14,7 +14,8 @@ head-delta-requires c κs = search needs
 
 returns : tie.Need-returns
 unfolding saef
-returns c = (ap (λ (l : List ℕ). record { delta = l; first = false }) (c .head-delta .ensures), omega arith)
+returns c =
+    let h = c .before .before .head-delta .ensures in (ap (λ (l : List ℕ). record { delta = l; first = false }) (h .0), omega arith, h .1)
 
 pub head-spec : {M : Type 1} → statement M
 head-spec = tie.close (tie.spec head-delta-requires returns)

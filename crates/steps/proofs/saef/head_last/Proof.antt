@@ -10,6 +10,7 @@ use Rattle.modes.specs.Saef.{maskHalf, saef}
 use Rattle.steps.specs.declared.Kind.the-variants.{Saef}
 use Rattle.steps.specs.Skinny.{skinny}
 use Rattle.steps.specs.Modes.{stateOf}
+use Rattle.prepared.specs.Prepared.{keyIn}
 use borrow.Author.Needs.{needs}
 use Rattle.steps.proofs.saef.head_last.Statement.{statement}
 use Rattle.steps.proofs.saef.head_last.Tie as tie
@@ -23,14 +24,15 @@ head-delta-requires c κs = search needs
 returns : tie.Need-returns
 unfolding saef
 returns c =
-    let start = c .before .before .before in
-    let a = start .args in
+    let h = c .before .before .head-delta .ensures in
+    let a = c .before .before .before .before .before .before .args in
     let n = blockOf (a .c) in (
       ap (λ (l : List ℕ). record { delta = l; first = false })
-          (c .head-delta .ensures
-          ∙ ap (λ (f : ℕ). maskHalf n (skinny (a .c) (a .key)) (a .nonce .now) 0 f (stateOf Saef n (a .s)) (take n (a .x)))
-          (c .before .head-flag .ensures .0)),
+          (h .0
+          ∙ ap (λ (f : ℕ). maskHalf n (skinny (a .c) (keyIn (a .c) (a .share .now))) (a .nonce .now) 0 f (stateOf Saef n (a .s)) (take n (a .x)))
+          (c .before .before .before .before .head-flag .ensures .0)),
       omega arith,
+      h .1,
     )
 
 pub head-last-spec : {M : Type 1} → statement M

@@ -13,9 +13,9 @@ unmasked-requires c κs = search needs
 returns : tie.Need-returns
 unfolding movedOf unmaskedOf
 returns c =
-    let after-unmasked = c .before .before in
+    let after-unmasked = c .before .before .before in
     let a = after-unmasked .before .args in (
-      ap (λ (u : Pair). record { out = u .first; next = record { mask = u .second; number = a .s .number; first = false } })
+      ap (λ (u : Pair). record { out = u .first; next = record { mask = u .second; number = a .s .number; first = false; kept = u .kept } })
           (after-unmasked .unmasked .ensures .0),
       after-unmasked .unmasked .ensures .1,
     )

@@ -14,8 +14,8 @@ xored-requires c κs = search needs
 returns : tie.Need-returns
 unfolding unmaskedOf
 returns c =
-    let a = c .before .before .before .before .args in
-    (ap (λ (l : List ℕ). record { first = l; second = a .p .second }) (c .xored .ensures), omega (arith, c .xored .ok))
+    let a = c .before .before .before .before .before .args in
+    (ap (λ (l : List ℕ). record { first = l; second = a .p .second; kept = a .p .kept }) (c .xored .ensures), omega (arith, c .xored .ok))
 
 pub unmasked-spec : {M : Type 1} → statement M
 unmasked-spec = tie.close (tie.spec xored-requires returns)

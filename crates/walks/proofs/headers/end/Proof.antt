@@ -6,6 +6,7 @@ use lib.ListN.{length}
 use Rattle.ciphers.proofs.Laws.{block-most}
 use Rattle.modes.specs.Blocks.{full}
 use Rattle.ciphers.specs.Ciphers.{blockOf}
+use Rattle.prepared.specs.Prepared.{keyIn}
 use Rattle.steps.specs.Modes.{modeOf, stateOf}
 use Rattle.walks.proofs.Places.{loaded}
 use borrow.Author.Needs.{needs}
@@ -19,28 +20,30 @@ is-full-requires : tie.Need-is-full-requires
 is-full-requires c κs = search needs
 
 load-requires : tie.Need-load-requires
-load-requires c κs = omega (arith, c .before .block-of .ensures, block-most (c .before .before .before .before .args .c))
+load-requires c κs = omega (arith, c .before .before .block-of .ensures, block-most (c .before .before .before .before .before .args .c))
 
 head-last-requires : tie.Need-head-last-requires
 head-last-requires c κs = search needs
 
 returns : tie.Need-returns
 returns c =
-    let after-is-full = c .before .before in
+    let after-is-full = c .before .before .before in
     let after-block-of = after-is-full .before in
     let start = after-block-of .before .before .before in
     let a = start .args in
     let n = blockOf (a .c) in
     let e = after-block-of .block-of .ensures in
     let f = after-is-full .is-full .ensures ∙ ap (λ (m : ℕ). full m (length (a .part .now))) e in
-    let l = loaded _ n _ (a .part .now) e (c .before .load .ensures) in
-    record {
-      state =
-          c .head-last .ensures .0 ∙
-          (λ i. modeOf (a .k) (a .c) (a .key) (a .nonce .now) .headLast (a .empty) (f i) (stateOf (a .k) n (a .s))
-          (l i));
-      number = c .head-last .ensures .1;
-    }
+    let l = loaded _ n _ (a .part .now) e (c .before .load .ensures) in (
+      record {
+        state =
+            c .head-last .ensures .0 ∙
+            (λ i. modeOf (a .k) (a .c) (keyIn (a .c) (a .share .now)) (a .nonce .now) .headLast (a .empty) (f i) (stateOf (a .k) n (a .s))
+            (l i));
+        number = c .head-last .ensures .1;
+      },
+      c .head-last .ensures .2,
+    )
 
 pub end-spec : {M : Type 1} → statement M
 end-spec =

@@ -10,14 +10,14 @@ block-of-requires : tie.Need-block-of-requires
 block-of-requires c κs = search needs
 
 load-requires : tie.Need-load-requires
-load-requires c κs = omega (arith, c .block-of .ensures, block-most (c .before .before .before .before .args .c))
+load-requires c κs = omega (arith, c .before .block-of .ensures, block-most (c .before .before .before .before .before .args .c))
 
 open-block-requires : tie.Need-open-block-requires
 open-block-requires c κs = search needs
 
 store-requires : tie.Need-store-requires
 store-requires c κs =
-    let n = c .before .before .before .before in
+    let n = c .before .before .before .before .before in
     let st = n .before .before .before .before in
     (omega (arith, n .block-of .ensures, block-most (st .args .c)), omega (arith, n .block-of .ensures, st .pre .2))
 
@@ -29,11 +29,13 @@ returns c =
     let after-store = c .before .before .before in
     let after-step = after-store .before .before .before in
     let after-load = after-step .before in
-    let after-block-of = after-load .before in
+    let after-block-of = after-load .before .before in
     let start = after-block-of .before .before .before .before in
-    let a = start .args in
-    turned (a .c) (a .part .now) (a .rest .now) (after-block-of .block-of .ensures) (after-load .load .ensures)
-    (after-step .open-block .ensures) (after-store .store .ensures) (start .pre .1)
+    let a = start .args in (
+      turned (a .c) (a .part .now) (a .rest .now) (after-block-of .block-of .ensures) (after-load .load .ensures)
+          (after-step .open-block .ensures .0) (after-store .store .ensures) (start .pre .1),
+      after-step .open-block .ensures .1,
+    )
 
 pub turn-spec : {M : Type 1} → statement M
 turn-spec =

@@ -1,8 +1,12 @@
 -- `walks::records::seal` meets its contract: the header, and then one block or the walk over the body. Assumes nothing.
 use native.Mathlib.Omega.{arith}
+use mathlib.Core.List.{List}
+use Prim.Native.Nat.{ℕ}
+use lib.ListN.{replicate, length-replicate}
 use lib.Seq.{length-take-le}
 use Rattle.ciphers.proofs.Laws.{block-most}
 use Rattle.ciphers.specs.Ciphers.{blockOf}
+use Rattle.prepared.specs.Prepared.{keyIn}
 use Rattle.steps.specs.Modes.{modeOf}
 use Rattle.walks.proofs.FromHeader.{seal-none, seal-some}
 use borrow.Author.Needs.{needs}
@@ -10,7 +14,8 @@ use Rattle.walks.proofs.records.seal.Statement.{statement}
 use Rattle.walks.proofs.records.seal.Tie as tie
 
 head-requires : tie.Need-head-requires
-head-requires c κs = search needs
+head-requires c κs =
+    let start = c .before .before .before .before .before .before in (start .pre .0, start .pre .3, length-replicate {A = List ℕ} 97 (replicate 8 0))
 
 block-of-requires : tie.Need-block-of-requires
 block-of-requires c κs = search needs
@@ -21,7 +26,7 @@ alone-requires c κs = search needs
 store-requires : tie.Need-store-requires
 store-requires c κs =
     let after-block-of = c .before .before in
-    let start = after-block-of .before .before .before .before .before .before .before in (
+    let start = after-block-of .before .before .before .before .before .before .before .before in (
       omega (arith, after-block-of .block-of .ensures, block-most (start .args .c)),
       omega
           (arith, after-block-of .block-of .ensures, start .pre .2),
@@ -36,12 +41,12 @@ returns c =
     let after-alone = after-store .before in
     let after-block-of = after-alone .before .before in
     let after-head = after-block-of .before in
-    let test = after-head .before in
+    let test = after-head .before .before in
     let start = test .before .before .before .before .before in
     let a = start .args in
     let n = blockOf (a .c) in
-    let M = modeOf (a .k) (a .c) (a .key) (a .nonce .now) in
-    seal-none n M (a .header .now) _ _ _ (after-block-of .block-of .ensures) (after-head .head .ensures .state)
+    let M = modeOf (a .k) (a .c) (keyIn (a .c) (a .share .now)) (a .nonce .now) in
+    seal-none n M (a .header .now) _ _ _ (after-block-of .block-of .ensures) (after-head .head .ensures .0 .state)
     (after-alone .alone .ensures) (a .body .now) _ _ (test .if1 .taken)
     (record {
       said = after-store .store .ensures;
@@ -49,10 +54,16 @@ returns c =
     })
 
 head-requires-2 : tie.Need-head-requires-2
-head-requires-2 c κs = search needs
+head-requires-2 c κs =
+    let start = c .before .before .before .before .before .before in (start .pre .0, start .pre .3, length-replicate {A = List ℕ} 97 (replicate 8 0))
 
 body-requires : tie.Need-body-requires
-body-requires c κs = search needs
+body-requires c κs =
+    let after-head2 = c .before .before in
+    let test = after-head2 .before .before in
+    let start = test .before .before .before .before .before in
+    let h = after-head2 .head2 .ensures in
+    (start .pre .1, h .0 .number, omega (arith, test .if1 .left), start .pre .2, h .1)
 
 same-length-2 : tie.Need-same-length-2
 same-length-2 c = search needs
@@ -60,13 +71,13 @@ same-length-2 c = search needs
 returns-2 : tie.Need-returns-2
 returns-2 c =
     let after-body = c .before .before in
-    let after-head2 = after-body .before .before in
-    let test = after-head2 .before in
+    let after-head2 = after-body .before .before .before in
+    let test = after-head2 .before .before in
     let start = test .before .before .before .before .before in
     let a = start .args in
     let n = blockOf (a .c) in
-    let M = modeOf (a .k) (a .c) (a .key) (a .nonce .now) in
-    seal-some n M (a .header .now) _ (after-head2 .head2 .ensures .state) (a .body .now) _ _ (omega (arith, test .if1 .left))
+    let M = modeOf (a .k) (a .c) (keyIn (a .c) (a .share .now)) (a .nonce .now) in
+    seal-some n M (a .header .now) _ (after-head2 .head2 .ensures .0 .state) (a .body .now) _ _ (omega (arith, test .if1 .left))
     (after-body .body .ensures)
 
 pub seal-spec : {M : Type 1} → statement M

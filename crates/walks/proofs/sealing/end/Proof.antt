@@ -6,6 +6,7 @@ use lib.ListN.{length, length-take, length-drop}
 use Rattle.ciphers.proofs.Laws.{block-most}
 use Rattle.modes.specs.Blocks.{full}
 use Rattle.ciphers.specs.Ciphers.{blockOf}
+use Rattle.prepared.specs.Prepared.{keyIn}
 use Rattle.walks.proofs.Places.{loaded}
 use Rattle.walks.proofs.Sealed.{seal-ended}
 use borrow.Author.Needs.{needs}
@@ -26,7 +27,7 @@ seal-last-requires c κs = search needs
 
 store-requires : tie.Need-store-requires
 store-requires c κs =
-    let after-block-of = c .before .before .before .before .before .before in
+    let after-block-of = c .before .before .before .before .before .before .before in
     let start = after-block-of .before .before .before .before in (
       omega (arith, after-block-of .block-of .ensures, block-most (start .args .c)),
       omega
@@ -44,7 +45,7 @@ part-store-end c = search needs
 
 store-requires-2 : tie.Need-store-requires-2
 store-requires-2 c κs =
-    let start = c .before .before .before .before .before .before .before .before .before .before .before .before .before .before in
+    let start = c .before .before .before .before .before .before .before .before .before .before .before .before .before .before .before in
     (omega (arith, start .pre .1, block-most (start .args .c)), simp (length-take, length-drop) (omega arith))
 
 same-length : tie.Need-same-length
@@ -55,7 +56,7 @@ returns c =
     let after-store2 = c .before .before in
     let after-store = after-store2 .before .before .before .before in
     let after-seal-last = after-store .before .before .before .before in
-    let after-load = after-seal-last .before in
+    let after-load = after-seal-last .before .before in
     let after-is-full = after-load .before in
     let after-block-of = after-is-full .before in
     let start = after-block-of .before .before .before .before in
@@ -63,7 +64,7 @@ returns c =
     let e = after-block-of .block-of .ensures in
     let f = after-is-full .is-full .ensures ∙ ap (λ (m : ℕ). full m (length (a .part .now))) e in
     let l = loaded _ (blockOf (a .c)) _ (a .part .now) e (after-load .load .ensures) in
-    seal-ended (a .c) (a .k) (a .key) (a .nonce .now) _ _ (a .s) (a .part .now) _ _ _ _ _ _ e f l (after-seal-last .seal-last .ensures)
+    seal-ended (a .c) (a .k) (keyIn (a .c) (a .share .now)) (a .nonce .now) _ _ (a .s) (a .part .now) _ _ _ _ _ _ e f l (after-seal-last .seal-last .ensures .0)
     (start .pre .1) (start .pre .2) (after-store .store .ensures) (after-store2 .store2 .ensures)
 
 pub end-spec : {M : Type 1} → statement M

@@ -17,7 +17,7 @@ seal-block-requires c κs = search needs
 
 store-requires : tie.Need-store-requires
 store-requires c κs =
-    let after-block-of = c .before .before .before .before in
+    let after-block-of = c .before .before .before .before .before in
     let start = after-block-of .before .before .before .before in (
       omega (arith, after-block-of .block-of .ensures, block-most (start .args .c)),
       omega
@@ -31,12 +31,14 @@ returns : tie.Need-returns
 returns c =
     let after-store = c .before .before .before in
     let after-step = after-store .before .before .before in
-    let after-load = after-step .before in
+    let after-load = after-step .before .before in
     let after-block-of = after-load .before in
     let start = after-block-of .before .before .before .before in
-    let a = start .args in
-    turned (a .c) (a .part .now) (a .rest .now) (after-block-of .block-of .ensures) (after-load .load .ensures)
-    (after-step .seal-block .ensures) (after-store .store .ensures) (start .pre .1)
+    let a = start .args in (
+      turned (a .c) (a .part .now) (a .rest .now) (after-block-of .block-of .ensures) (after-load .load .ensures)
+          (after-step .seal-block .ensures .0) (after-store .store .ensures) (start .pre .1),
+      after-step .seal-block .ensures .1,
+    )
 
 pub turn-spec : {M : Type 1} → statement M
 turn-spec =

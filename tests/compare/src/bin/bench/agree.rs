@@ -1,9 +1,9 @@
-//! That all sides answer alike, on random calls of every kind; nothing is
-//! timed before.
+//! That all sides answer alike, on random calls of every kind, and ours with a
+//! prepared key as by key; nothing is timed before.
 
-use crate::block_calls::{answer, Block, Kind};
+use crate::block_calls::{answer, answer_prepared, Block, Kind};
 use crate::rival;
-use crate::sealing_calls::call_of;
+use crate::sealing_calls::{call_of, prepared_call_of};
 use crate::side::Side;
 use compare::entries::Told;
 use compare::random::Random;
@@ -53,6 +53,9 @@ fn check_block_call(random: &mut Random) {
         answers.iter().all(|one| *one == answers[0]),
         "the sides do not agree on a block call: {kind:?} {answers:x?}"
     );
+    let (_, prepared) = auraski::prepare(kind.cipher, &key);
+    let answer = answer_prepared(kind, &prepared, &tweak, &block);
+    assert_eq!(answer, answers[0], "with a prepared key: {kind:?}");
 }
 
 fn rounds_of(side: Side, scheme: u32, header: usize, body: usize) -> Rounds {
@@ -89,16 +92,33 @@ impl Record<'_> {
             let answer = call_of(side, direction)(self.scheme, key, nonce, header, text, &mut room);
             (answer, room)
         });
-        if ours != rival || ours != second {
+        let prepared = self.call_prepared(direction, text, room_bytes);
+        if ours != rival || ours != second || ours != prepared {
             let lengths = parts.map(<[u8]>::len);
             panic!(
-                "the sides do not agree: {}, scheme {}, lengths {lengths:?}, room {room_bytes}: {:?}, {:?}, {:?}",
-                direction.name(), self.scheme, ours.0, rival.0, second.0
+                "the sides do not agree: {}, scheme {}, lengths {lengths:?}, room {room_bytes}: {:?}, {:?}, {:?}, prepared {:?}",
+                direction.name(), self.scheme, ours.0, rival.0, second.0, prepared.0
             );
         }
         let (Told { number, length }, room) = ours;
         self.answered[number as usize] += 1;
         (length, room)
+    }
+
+    /// What ours answers with the key prepared, and the room that it leaves.
+    fn call_prepared(
+        &self,
+        direction: Direction,
+        text: &[u8],
+        room_bytes: usize,
+    ) -> (Told, Vec<u8>) {
+        let cipher = Scheme::find(self.scheme).map_or(1, |row| row.cipher);
+        let (_, prepared) = auraski::prepare(cipher, &self.key);
+        let mut room = vec![BEFORE; room_bytes];
+        let call = prepared_call_of(direction);
+        let (nonce, header) = (&self.nonce, &self.header);
+        let answer = call(self.scheme, &prepared, nonce, header, text, &mut room);
+        (answer, room)
     }
 
     /// The rounds of a body of this length under the header.
@@ -173,5 +193,5 @@ pub fn check() -> String {
         "a number was never the answer: {answered:?}"
     );
     let calls: usize = answered.iter().sum();
-    format!("ours, rival and second answer alike: {BLOCK_CALLS} block calls, {calls} seals and opens (by number from 0: {answered:?}), and the rounds of their lengths")
+    format!("ours, rival and second answer alike: {BLOCK_CALLS} block calls, {calls} seals and opens (by number from 0: {answered:?}), and the rounds of their lengths; and ours with prepared keys as by key")
 }

@@ -2,7 +2,7 @@
 
 use crate::rival;
 use crate::side::{quickest, Side, Times};
-use compare::auraski::{self, opaque};
+use compare::auraski::{self, opaque, Prepared};
 use compare::second;
 
 pub type Block = [u8; 16];
@@ -90,27 +90,60 @@ pub fn answer(
     (number, first, other)
 }
 
+/// The same of ours with a prepared key.
+pub fn answer_prepared(
+    kind: Kind,
+    prepared: &Prepared,
+    tweak: &Block,
+    block: &Block,
+) -> (u32, Block, Block) {
+    let Kind { cipher, from, want } = kind;
+    let (mut first, mut other) = ([BEFORE; 16], [BEFORE; 16]);
+    let room = [&mut first, &mut other];
+    let number = match from {
+        None => auraski::fork_prepared(cipher, prepared, tweak, block, want, room),
+        Some(from) => auraski::unfork_prepared(cipher, prepared, tweak, block, from, want, room),
+    };
+    (number, first, other)
+}
+
 /// A batch of calls: the sum of their numbers, which is 0 if none was refused,
 /// and the block that the last one leaves.
-fn chained(side: Side, kind: Kind, count: u32) -> (u32, Block) {
+fn chained(count: u32, call: impl Fn(&Chain) -> (u32, Block, Block)) -> (u32, Block) {
     let mut chain = Chain::new();
     let mut refused = 0;
     for _ in 0..count {
-        let Chain { key, tweak, block } = &chain;
-        let (number, first, second) = answer(side, opaque(kind), key, tweak, block);
+        let (number, first, second) = call(&chain);
         refused += number;
         chain.take_in(&first, &second);
     }
     (refused, opaque(chain.block))
 }
 
+fn chained_by_key(side: Side, kind: Kind, count: u32) -> (u32, Block) {
+    chained(count, |chain| {
+        let Chain { key, tweak, block } = chain;
+        answer(side, opaque(kind), key, tweak, block)
+    })
+}
+
 pub fn run(side: Side, kind: Kind, count: u32) -> u32 {
-    chained(side, kind, count).0
+    chained_by_key(side, kind, count).0
+}
+
+/// The same of ours with the key prepared before the first call.
+pub fn run_prepared(kind: Kind, count: u32) -> u32 {
+    let (_, prepared) = auraski::prepare(kind.cipher, &Chain::new().key);
+    let call = |chain: &Chain| {
+        let Chain { tweak, block, .. } = chain;
+        answer_prepared(opaque(kind), &prepared, tweak, block)
+    };
+    chained(count, call).0
 }
 
 /// Times one kind of call, of which a batch ends alike on all sides.
 pub fn measure(kind: Kind) -> Times {
-    let ends = Side::ALL.map(|side| chained(side, kind, CALLS));
+    let ends = Side::ALL.map(|side| chained_by_key(side, kind, CALLS));
     assert!(
         ends.iter().all(|end| *end == ends[0]),
         "the sides do not agree: {kind:?}"
@@ -129,22 +162,27 @@ pub fn kinds() -> Vec<Kind> {
     kinds
 }
 
-/// SIDE DIRECTION CIPHER FROM WANT N.
-pub fn parse_count(words: &[&str]) -> Option<(Side, Kind, u32)> {
-    let (side, direction, numbers) = match words {
-        [side, direction, numbers @ ..] if numbers.len() == 4 => (*side, *direction, numbers),
-        _ => return None,
-    };
-    let number = |place: usize| numbers[place].parse::<u32>().ok();
+/// DIRECTION CIPHER FROM WANT.
+pub fn parse_kind(words: &[&str]) -> Option<Kind> {
+    let [direction, cipher, from, want]: [&str; 4] = words.try_into().ok()?;
     let from = match direction {
         "fork" => None,
-        "unfork" => Some(number(1)?),
+        "unfork" => Some(from.parse().ok()?),
         _ => return None,
     };
-    let kind = Kind {
-        cipher: number(0)?,
+    Some(Kind {
+        cipher: cipher.parse().ok()?,
         from,
-        want: number(2)?,
-    };
-    Some((Side::find(side)?, kind, number(3)?))
+        want: want.parse().ok()?,
+    })
+}
+
+/// SIDE DIRECTION CIPHER FROM WANT N.
+pub fn parse_count(words: &[&str]) -> Option<(Side, Kind, u32)> {
+    match words {
+        [side, kind @ .., count] => {
+            Some((Side::find(side)?, parse_kind(kind)?, count.parse().ok()?))
+        }
+        _ => None,
+    }
 }

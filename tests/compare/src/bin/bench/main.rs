@@ -11,6 +11,13 @@
 //!                                          N block calls of one kind
 //!   bench count-seal SIDE DIRECTION SCHEME BODY N
 //!                                          N seals or opens of one kind
+//!   bench count-prepared DIRECTION CIPHER FROM WANT N
+//!   bench count-prepared DIRECTION SCHEME BODY N
+//!                                          the same of ours, with the key prepared
+//!                                          before the first
+//!   bench count-prepared prepare CIPHER N  N times a key prepared
+//!   bench count-prepared judge SCHEME N    N seals that judge a prepared key and are
+//!                                          refused then
 //!   bench kinds                            DIRECTION SCHEME BODY of every kind of
 //!                                          seal and open, and how many are a batch
 //!   bench draw FILE MADE                   the plot of counts: from the input, lines
@@ -18,14 +25,15 @@
 //!
 //! SIDE is ours, rival or second. DIRECTION is fork or unfork of block calls, where
 //! FROM does not count for fork, and else seal or open; BODY is the body's
-//! length. The last four forms are for counting instructions; those that make the
-//! calls print nothing.
+//! length. The last forms, from the first count on, are for counting instructions;
+//! those that make the calls print nothing.
 
 mod agree;
 mod block_calls;
 mod curves;
 mod panel;
 mod plot;
+mod prepared_calls;
 mod rival;
 mod scale;
 mod sealing_calls;
@@ -40,7 +48,11 @@ const USAGE: &str = "bench [agree|blocks|sealing|kinds]
 bench plot FILE MADE
 bench draw FILE MADE
 bench count ours|rival|second fork|unfork CIPHER FROM WANT N
-bench count-seal ours|rival|second seal|open SCHEME BODY N";
+bench count-seal ours|rival|second seal|open SCHEME BODY N
+bench count-prepared fork|unfork CIPHER FROM WANT N
+bench count-prepared seal|open SCHEME BODY N
+bench count-prepared prepare CIPHER N
+bench count-prepared judge SCHEME N";
 
 /// Both tables, once the sides agree; gives the figures of sealing and opening.
 fn print_tables() -> Vec<Figure> {
@@ -94,6 +106,13 @@ fn count_seals(words: &[&str]) -> Option<()> {
     Some(())
 }
 
+/// N calls with a prepared key, if the words are right.
+fn count_prepared(words: &[&str]) -> Option<()> {
+    let (kind, count) = prepared_calls::parse_count(words)?;
+    prepared_calls::run(kind, count);
+    Some(())
+}
+
 /// Does what the words ask for, if they are right.
 fn obey(words: &[&str]) -> Option<()> {
     match words {
@@ -106,6 +125,7 @@ fn obey(words: &[&str]) -> Option<()> {
         ["sealing"] => drop(tables::print_sealing()),
         ["count", rest @ ..] => count_blocks(rest)?,
         ["count-seal", rest @ ..] => count_seals(rest)?,
+        ["count-prepared", rest @ ..] => count_prepared(rest)?,
         _ => return None,
     }
     Some(())

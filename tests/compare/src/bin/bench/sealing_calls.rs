@@ -2,9 +2,9 @@
 
 use crate::rival;
 use crate::side::{over_passes, quickest, Costs, Side, Times};
-use compare::auraski::{self, opaque};
+use compare::auraski::{self, opaque, Prepared};
 use compare::entries::Told;
-use compare::records::{Direction, Sealing};
+use compare::records::{Direction, Sealing, SealingPrepared};
 use compare::schemes::{Scheme, SCHEMES};
 use compare::second;
 use std::iter::once;
@@ -56,6 +56,11 @@ pub fn call_of(side: Side, direction: Direction) -> Sealing<Told> {
     }
 }
 
+/// Ours with a prepared key.
+pub fn prepared_call_of(direction: Direction) -> SealingPrepared<Prepared, Told> {
+    direction.of([auraski::seal_prepared, auraski::open_prepared])
+}
+
 /// What the calls of one kind work on: a body, or its sealed run.
 pub struct Work {
     kind: Kind,
@@ -99,6 +104,21 @@ impl Work {
     pub fn run(&mut self, side: Side, count: u32) -> u32 {
         let call = call_of(side, self.kind.direction);
         (0..count).map(|_| self.call(opaque(call))).sum()
+    }
+
+    /// The same of ours with the key prepared before the first call.
+    pub fn run_prepared(&mut self, count: u32) -> u32 {
+        let (_, prepared) = auraski::prepare(self.kind.scheme.cipher, &self.key);
+        let call = prepared_call_of(self.kind.direction);
+        let Work {
+            kind,
+            nonce,
+            text,
+            room,
+            ..
+        } = self;
+        let once = |_| opaque(call)(kind.number, &prepared, nonce, &HEADER, text, room).number;
+        (0..count).map(once).sum()
     }
 }
 
@@ -150,7 +170,7 @@ pub fn kinds() -> Vec<Kind> {
 }
 
 /// DIRECTION SCHEME BODY, a body that the scheme takes.
-fn parse_kind(words: &[&str]) -> Option<Kind> {
+pub fn parse_kind(words: &[&str]) -> Option<Kind> {
     let [direction, number, body]: [&str; 3] = words.try_into().ok()?;
     let (number, body) = (number.parse().ok()?, body.parse().ok()?);
     let scheme = Scheme::find(number)?;

@@ -25,6 +25,7 @@ fn inputs(random: &mut Random) -> Vec<[Block; 3]> {
 fn call_of(cipher: u32, [key, tweak, block]: [Block; 3], want: u32) -> BlockCall {
     BlockCall {
         cipher,
+        prepared: None,
         key,
         tweak,
         block,

@@ -2,7 +2,7 @@
 
 use crate::side::{Block, Side};
 use crate::value::{plain, plain_or_last, plain_or_sum};
-use compare::records::{Call, Direction};
+use compare::records::Call;
 
 /// What every byte of a room holds before a call.
 const FILLING: u8 = 0xee;
@@ -24,6 +24,8 @@ pub struct Book {
 #[derive(Clone, Copy)]
 pub struct BlockCall {
     pub cipher: u32,
+    /// The cipher for which the key is prepared; by key if there is none.
+    pub prepared: Option<u32>,
     pub key: Block,
     pub tweak: Block,
     pub block: Block,
@@ -67,22 +69,48 @@ impl Book {
         self.field("call", call);
     }
 
+    /// The same of a call that takes a prepared key too; `of` names the scheme or
+    /// cipher.
+    fn begin_keyed(&mut self, call: &str, about: &str, of: (&str, u32), prepared: Option<u32>) {
+        let behind = prepared.map_or("", |_| "_prepared");
+        self.begin(&format!("{}{}", call, behind), about);
+        self.field(of.0, &of.1.to_string());
+        if let Some(cipher) = prepared {
+            self.field("prepared", &cipher.to_string());
+        }
+    }
+
     /// A record of seal or open. The number that the record is there for has
     /// to come, or what is said of it would be wrong. Gives the output.
     pub fn sealing(&mut self, about: &str, call: &Call, number: u32) -> Vec<u8> {
-        let text_name = match call.direction {
-            Direction::Seal => "body",
-            Direction::Open => "sealed",
-        };
-        self.begin(call.direction.name(), about);
+        self.any_sealing(about, call, None, number)
+    }
+
+    /// The same with the key prepared for a cipher.
+    pub fn sealing_prepared(&mut self, about: &str, call: &Call, of: u32, number: u32) -> Vec<u8> {
+        self.any_sealing(about, call, Some(of), number)
+    }
+
+    fn any_sealing(
+        &mut self,
+        about: &str,
+        call: &Call,
+        prepared: Option<u32>,
+        number: u32,
+    ) -> Vec<u8> {
+        let (name, scheme) = (call.direction.name(), ("scheme", call.scheme));
+        self.begin_keyed(name, about, scheme, prepared);
         let mut room = vec![FILLING; call.room];
-        self.field("scheme", &call.scheme.to_string());
         self.field("key", &plain(&call.key));
         self.field("nonce", &plain(&call.nonce));
         self.field("header", &plain(&call.header));
+        let text_name = call.direction.of(["body", "sealed"]);
         self.field(text_name, &plain_or_last(&call.text, &self.last));
         self.field("room", &plain(&room));
-        let answer = call.make(self.side.sealing, &mut room);
+        let answer = match prepared {
+            None => call.make(self.side.sealing, &mut room),
+            Some(of) => (self.side.sealing_prepared)(of, call, &mut room),
+        };
         assert_eq!(answer.number, number, "record {}: {}", self.records, about);
         self.field("number", &answer.number.to_string());
         self.field("length", &answer.length.to_string());
@@ -92,8 +120,8 @@ impl Book {
         self.last.clone()
     }
 
-    fn block_call(&mut self, call: &BlockCall) {
-        self.field("cipher", &call.cipher.to_string());
+    fn begin_block(&mut self, name: &str, about: &str, call: &BlockCall) {
+        self.begin_keyed(name, about, ("cipher", call.cipher), call.prepared);
         self.field("key", &plain(&call.key));
         self.field("tweak", &plain(&call.tweak));
         self.field("block", &plain(&call.block));
@@ -101,13 +129,17 @@ impl Book {
 
     /// A record of fork. Gives both halves.
     pub fn fork(&mut self, about: &str, call: &BlockCall, number: u32) -> [Block; 2] {
-        self.begin("fork", about);
-        self.block_call(call);
+        self.begin_block("fork", about, call);
         self.field("want", &call.want.to_string());
+        let BlockCall { cipher, want, .. } = *call;
         let (key, tweak, block) = (&call.key, &call.tweak, &call.block);
         let [mut half0, mut half1] = FILLED;
         let halves = [&mut half0, &mut half1];
-        let told = (self.side.fork)(call.cipher, key, tweak, block, call.want, halves);
+        let side = self.side;
+        let told = match call.prepared {
+            None => (side.fork)(cipher, key, tweak, block, want, halves),
+            Some(of) => (side.fork_prepared)(of, cipher, key, tweak, block, want, halves),
+        };
         assert_eq!(told, number, "record {}: {}", self.records, about);
         self.field("number", &told.to_string());
         self.field("half0", &plain(&half0));
@@ -118,18 +150,33 @@ impl Book {
 
     /// A record of unfork.
     pub fn unfork(&mut self, about: &str, call: &BlockCall, from: u32, number: u32) {
-        self.begin("unfork", about);
-        self.block_call(call);
+        self.begin_block("unfork", about, call);
         self.field("from", &from.to_string());
         self.field("want", &call.want.to_string());
+        let BlockCall { cipher, want, .. } = *call;
         let (key, tweak, block) = (&call.key, &call.tweak, &call.block);
         let [mut input, mut other] = FILLED;
-        let results = [&mut input, &mut other];
-        let told = (self.side.unfork)(call.cipher, key, tweak, block, from, call.want, results);
+        let ends = [&mut input, &mut other];
+        let side = self.side;
+        let told = match call.prepared {
+            None => (side.unfork)(cipher, key, tweak, block, from, want, ends),
+            Some(of) => (side.unfork_prepared)(of, cipher, key, tweak, block, from, want, ends),
+        };
         assert_eq!(told, number, "record {}: {}", self.records, about);
         self.field("number", &told.to_string());
         self.field("input", &plain(&input));
         self.field("other", &plain(&other));
+        self.last.clear();
+    }
+
+    /// A record of prepare.
+    pub fn prepare(&mut self, about: &str, cipher: u32, key: &[u8], number: u32) {
+        self.begin("prepare", about);
+        self.field("cipher", &cipher.to_string());
+        self.field("key", &plain(key));
+        let told = (self.side.prepare)(cipher, key);
+        assert_eq!(told, number, "record {}: {}", self.records, about);
+        self.field("number", &told.to_string());
         self.last.clear();
     }
 

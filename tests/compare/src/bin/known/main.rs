@@ -8,6 +8,7 @@ mod book;
 mod damage;
 mod lengths;
 mod limits;
+mod prepared;
 mod refusals;
 mod rooms;
 mod rounds;
@@ -38,6 +39,7 @@ fn whole_text(side: &'static Side) -> String {
     refusals::write(&mut book);
     damage::write(&mut book);
     rounds::write(&mut book);
+    prepared::write(&mut book);
     limits::write(&mut book);
     book.end()
 }

@@ -1,0 +1,34 @@
+-- `forkskinny::fork_under` meets its contract: the record is admitted, or it is refused. Assumes nothing.
+use mathlib.Core.Path.{sym, ap, _∙_}
+use mathlib.Core.Bool.{Bool, cond}
+use Rattle.prepared.specs.Prepared.{keyIn}
+use Rattle.forkskinny.specs.Calls.{forkBy, forkRefusedWith}
+use Rattle.prepared.proofs.Admitted.{made-if}
+use borrow.Author.Needs.{needs}
+use Rattle.forkskinny.proofs.fork_under.Statement.{statement}
+use Rattle.forkskinny.proofs.fork_under.Tie as tie
+
+judge-requires : tie.Need-judge-requires
+judge-requires c κs = search needs
+
+fork-by-requires : tie.Need-fork-by-requires
+fork-by-requires c κs = let a = c .before .before .before .before .args in made-if (a .c) (a .key) (sym (c .before .before .before .judge .ensures) ∙ c .before .before .if1 .taken)
+
+returns : tie.Need-returns
+returns c =
+    let a = c .before .before .before .before .before .args in
+    c .fork-by .ensures
+    ∙ sym (ap (λ (t : Bool). cond t (forkBy (a .c) (keyIn (a .c) (a .key .share)) (a .tweak) (a .block) (a .want)) (forkRefusedWith 2)) (sym (c .before .before .before .before .judge .ensures) ∙ c .before .before .before .if1 .taken))
+
+fork-refused-requires : tie.Need-fork-refused-requires
+fork-refused-requires c κs = search needs
+
+returns-2 : tie.Need-returns-2
+returns-2 c =
+    let a = c .before .before .before .args in
+    c .fork-refused .ensures
+    ∙ sym (ap (λ (t : Bool). cond t (forkBy (a .c) (keyIn (a .c) (a .key .share)) (a .tweak) (a .block) (a .want)) (forkRefusedWith 2)) (sym (c .before .before .judge .ensures) ∙ c .before .if1 .left))
+
+pub fork-under-spec : {M : Type 1} → statement M
+fork-under-spec =
+    tie.close (tie.spec judge-requires fork-by-requires returns fork-refused-requires returns-2)

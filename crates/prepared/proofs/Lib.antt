@@ -1,0 +1,4 @@
+pub mod Admitted
+pub mod Found
+pub mod Listed
+pub mod Loops
