@@ -11,8 +11,8 @@
  * Which memory a call reads or writes, and how it branches, does not depend on key, prepared key, body or block: no table is read at a place
  * that does. There are two exceptions, which are answers: a call that judges a run branches once on whether it is authentic, and for 6 clears
  * the room; and a call that is given a prepared key branches once on whether it is admitted. That is tested on the machine code, not
- * proved. Nothing more is said of the time that a call takes. It may depend on lengths, nonce, tweak, header and sealed run, which are no
- * secrets here.
+ * proved. Nothing more is said of the time that a call takes. It may depend on lengths, nonce, tweak, header and sealed run, and on the cipher
+ * that a key was prepared for, which are no secrets here.
  *
  * A pointer stands for as many bytes as the length behind it says, `length` for one size_t and `rounds` for one uint32_t. No pointer may be
  * null; where the length is 0 any other will do, such as the address of any object, and nothing is read or written through it. What a call

@@ -34,7 +34,7 @@ static int as_secret(const uint8_t *result, size_t counting)
 static void begin(const uint8_t *block)
 {
     make_secret(key, BLOCK);
-    make_secret(prepared, sizeof prepared);
+    make_keys_secret(prepared);
     make_secret(block, BLOCK);
     tally_begin();
 }
@@ -50,7 +50,7 @@ static void judge(enum entry entry, const struct forked *f, uint32_t number, uin
     hold(!silent || as_secret(first, in_first), "other bytes of the first result depend on a secret");
     hold(!silent || as_secret(second, in_second), "other bytes of the second result depend on a secret");
     make_public(key, BLOCK);
-    make_public(prepared, sizeof prepared);
+    make_keys_public(prepared);
     make_public(block, BLOCK);
     make_public(&number, sizeof number);
     make_public(first, BLOCK);

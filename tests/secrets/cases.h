@@ -1,5 +1,5 @@
-/* The calls. Secret are key, prepared key, body and block, and all that is worked out from them; what a wire shows or a caller may print is
- * public: scheme, cipher, nonce, header, tweak, a run to be opened, and every length. */
+/* The calls. Secret are key, prepared key but for its cipher's number, body and block, and all that is worked out from them; what a wire shows or
+ * a caller may print is public: scheme, cipher, nonce, header, tweak, a run to be opened, and every length. */
 #ifndef SECRETS_CASES_H
 #define SECRETS_CASES_H
 

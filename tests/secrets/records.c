@@ -58,7 +58,7 @@ static void make(enum entry entry, const struct call *c, uint32_t due)
     size_t length = 1, output = due == AURASKI_DONE ? c->room : 0;
     memset(room, 0xee, c->room);
     make_secret(key, c->key);
-    make_secret(prepared, sizeof prepared);
+    make_keys_secret(prepared);
     make_secret(body, seals(entry) ? c->text : 0);
     tally_begin();
     uint32_t number = answer(entry, c, &length);
@@ -67,7 +67,7 @@ static void make(enum entry entry, const struct call *c, uint32_t due)
          "number or length depends on a secret");
     hold(!silent || all_secret(room, output), "a byte of the output depends on no secret");
     make_public(key, c->key);
-    make_public(prepared, sizeof prepared);
+    make_keys_public(prepared);
     make_public(body, seals(entry) ? c->text : 0);
     make_public(&number, sizeof number);
     make_public(&length, sizeof length);
@@ -169,7 +169,7 @@ static void short_case(enum entry entry, const struct scheme *s)
     make(entry, &short_run, AURASKI_TOO_SHORT);
 }
 
-/* A prepared key that is not admitted: another cipher's; one of which the first byte, one between or the last one is another. */
+/* A prepared key that is not admitted: another cipher's; one of which a byte at either end or between is another. */
 static void not_admitted_cases(enum entry entry, const struct scheme *s)
 {
     static const size_t places[] = {0, 1, AURASKI_PREPARED / 2, AURASKI_PREPARED - 1};

@@ -51,7 +51,7 @@ static size_t take_refused_block(int which, uint32_t cipher)
 {
     Call unknown = BLOCK_CALLS[which].call(cipher, 0, 3), not_admitted = BLOCK_CALLS[which].call(cipher, 0, 2);
     size_t most = take(BLOCK_CALLS[which].name, &unknown, AURASKI_UNKNOWN);
-    not_admitted.arguments[1] = at(prepared[0]);
+    not_admitted.arguments[1] = at(damaged[cipher]);
     if (!BLOCK_CALLS[which].is_prepared)
         return most;
     return greater(most, take(BLOCK_CALLS[which].name, &not_admitted, AURASKI_WRONG_KEY_LENGTH));

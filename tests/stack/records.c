@@ -11,15 +11,16 @@ static uint32_t rounds;
 typedef struct {
     uint32_t scheme, cipher;
     size_t block, key, nonce, most;
+    const uint8_t *prepared;
 } Scheme;
 
 static const Scheme SCHEMES[3] = {
     {AURASKI_PAEF_64_192, AURASKI_64_192, AURASKI_PAEF_64_192_BLOCK, AURASKI_KEY_BYTES, AURASKI_PAEF_64_192_NONCE,
-     AURASKI_PAEF_64_192_LIMIT},
+     AURASKI_PAEF_64_192_LIMIT, prepared[AURASKI_64_192]},
     {AURASKI_PAEF_128_256, AURASKI_128_256, AURASKI_PAEF_128_256_BLOCK, AURASKI_KEY_BYTES, AURASKI_PAEF_128_256_NONCE,
-     AURASKI_PAEF_128_256_LIMIT},
+     AURASKI_PAEF_128_256_LIMIT, prepared[AURASKI_128_256]},
     {AURASKI_SAEF_128_256, AURASKI_128_256, AURASKI_SAEF_128_256_BLOCK, AURASKI_KEY_BYTES, AURASKI_SAEF_128_256_NONCE,
-     AURASKI_SAEF_128_256_LIMIT},
+     AURASKI_SAEF_128_256_LIMIT, prepared[AURASKI_128_256]},
 };
 
 /* ---- seal and open ---- */
@@ -46,7 +47,7 @@ static Call open_call(const Scheme *scheme, size_t header_len, size_t run_len, s
 static Call seal_prepared_call(const Scheme *scheme, size_t header_len, size_t body_len, size_t room_len)
 {
     Call call = {(void (*)(void))auraski_seal_prepared,
-                 {scheme->scheme, at(prepared[scheme->cipher]), at(nonce), scheme->nonce, at(header), header_len, at(body), body_len,
+                 {scheme->scheme, at(scheme->prepared), at(nonce), scheme->nonce, at(header), header_len, at(body), body_len,
                   at(room), room_len, at(&length)}};
     return call;
 }
@@ -54,7 +55,7 @@ static Call seal_prepared_call(const Scheme *scheme, size_t header_len, size_t b
 static Call open_prepared_call(const Scheme *scheme, size_t header_len, size_t run_len, size_t room_len)
 {
     Call call = {(void (*)(void))auraski_open_prepared,
-                 {scheme->scheme, at(prepared[scheme->cipher]), at(nonce), scheme->nonce, at(header), header_len, at(run), run_len,
+                 {scheme->scheme, at(scheme->prepared), at(nonce), scheme->nonce, at(header), header_len, at(run), run_len,
                   at(room), room_len, at(&length)}};
     return call;
 }
@@ -92,7 +93,7 @@ static size_t take_refused(const char *name, Making *call_of, const Scheme *sche
     size_t text_len = 16 + more, most = 0;
     unknown.scheme = 4;
     wrong_key.key--;
-    wrong_key.cipher = 0;
+    wrong_key.prepared = damaged[scheme->cipher];
     long_nonce.nonce++;
     const Call calls[6] = {call_of(&unknown, 16, text_len, 32), call_of(&wrong_key, 16, text_len, 32),
                            call_of(&long_nonce, 16, text_len, 32), call_of(scheme, scheme->most + 1, text_len, 32),

@@ -1,12 +1,13 @@
 #include "take.h"
 
 #include <stdio.h>
+#include <string.h>
 
 /* The stack that a caller has to have, arguments included. */
 enum { BOUND = AURASKI_STACK_BYTES };
 
 uint8_t key[16], nonce[16], header[MOST + 1], body[MOST + 1], run[MOST + 1 + BLOCK], room[MOST + 1 + BLOCK];
-uint8_t prepared[3][AURASKI_PREPARED];
+uint8_t prepared[3][AURASKI_PREPARED], damaged[3][AURASKI_PREPARED];
 int failures;
 
 void fill(void)
@@ -18,6 +19,8 @@ void fill(void)
             printf("stack: the key can't be prepared\n");
             failures++;
         }
+        memcpy(damaged[cipher], prepared[cipher], AURASKI_PREPARED);
+        damaged[cipher][AURASKI_PREPARED - 1] ^= 1;
     }
 }
 

@@ -9,8 +9,8 @@
 enum { MOST = AURASKI_SAEF_128_256_LIMIT, BLOCK = AURASKI_SAEF_128_256_BLOCK };
 
 extern uint8_t key[16], nonce[16], header[MOST + 1], body[MOST + 1], run[MOST + 1 + BLOCK], room[MOST + 1 + BLOCK];
-/* The key, prepared for the cipher of that number; at 0 stands one that is not admitted. */
-extern uint8_t prepared[3][AURASKI_PREPARED];
+/* The key, prepared for the cipher of that number; and the same with another last byte, which is not admitted. */
+extern uint8_t prepared[3][AURASKI_PREPARED], damaged[3][AURASKI_PREPARED];
 
 /* What was not as it has to be. */
 extern int failures;

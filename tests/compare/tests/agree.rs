@@ -1,6 +1,6 @@
-//! The library, through its C entry points, and the meter, which tells rounds
-//! too, against the second program: every number, every byte of both result
-//! blocks, and the rounds. Each call is made by key and with a prepared key.
+//! The library, through its C entry points, by key and with a prepared key, and
+//! the meter, which tells rounds too, against the second program: every number,
+//! every byte of both result blocks, and the rounds.
 
 use compare::calls::{fork, unfork, DONE};
 use compare::random::Random;
@@ -63,11 +63,8 @@ fn compare(kind: Kind, [key, tweak, block]: &[Block; 3], filling: u8) -> [Block;
         Kind::Forward { cipher, want } => {
             let prepared = &prepare(cipher, key);
             let answer = fork(cipher, key, tweak, block, want);
-            let metered = [
-                meter::fork(cipher, key, tweak, block, want, before),
-                meter::fork_prepared(cipher, prepared, tweak, block, want, before),
-            ];
-            assert_eq!(metered, [answer; 2], "{:?}", kind);
+            let metered = meter::fork(cipher, key, tweak, block, want, before);
+            assert_eq!(metered, answer, "{:?}", kind);
             let numbers = [
                 auraski::fork(cipher, key, tweak, block, want, room),
                 auraski::fork_prepared(cipher, prepared, tweak, block, want, other_room),
@@ -77,11 +74,8 @@ fn compare(kind: Kind, [key, tweak, block]: &[Block; 3], filling: u8) -> [Block;
         Kind::Back { cipher, from, want } => {
             let prepared = &prepare(cipher, key);
             let answer = unfork(cipher, key, tweak, block, from, want);
-            let metered = [
-                meter::unfork(cipher, key, tweak, block, from, want, before),
-                meter::unfork_prepared(cipher, prepared, tweak, block, from, want, before),
-            ];
-            assert_eq!(metered, [answer; 2], "{:?}", kind);
+            let metered = meter::unfork(cipher, key, tweak, block, from, want, before);
+            assert_eq!(metered, answer, "{:?}", kind);
             let numbers = [
                 auraski::unfork(cipher, key, tweak, block, from, want, room),
                 auraski::unfork_prepared(cipher, prepared, tweak, block, from, want, other_room),

@@ -7,7 +7,7 @@ use compare::calls::{DONE, NOT_ADMITTED, REFUSED};
 use compare::prepared::{self, Prepared};
 use compare::random::Random;
 use compare::records::{row_of, Call};
-use compare::{calls, meter, sealing};
+use compare::{calls, sealing};
 
 type Block = [u8; 16];
 
@@ -85,44 +85,34 @@ impl Work {
 
     fn expect_fork(&self, cipher: u32, key: &Both, want: u32, number: u32) {
         let (tweak, block) = (&self.tweak, &self.block);
-        let before = [[BEFORE; 16]; 2];
-        let [mut half0, mut half1] = before;
+        let [mut half0, mut half1] = [[BEFORE; 16]; 2];
         let halves = [&mut half0, &mut half1];
         let answer = calls::fork_prepared(cipher, &key.second, tweak, block, want);
         let told = auraski::fork_prepared(cipher, &key.library, tweak, block, want, halves);
-        let counted = meter::fork_prepared(cipher, &key.library, tweak, block, want, before);
-        assert_eq!((told, counted), (number, answer));
+        assert_eq!([told, answer.number], [number; 2]);
         assert_eq!([half0, half1], [answer.half0, answer.half1]);
     }
 
     fn expect_unfork(&self, cipher: u32, key: &Both, from: u32, want: u32, number: u32) {
         let (tweak, block) = (&self.tweak, &self.block);
-        let before = [[BEFORE; 16]; 2];
-        let [mut input, mut other] = before;
+        let [mut input, mut other] = [[BEFORE; 16]; 2];
         let ends = [&mut input, &mut other];
         let answer = calls::unfork_prepared(cipher, &key.second, tweak, block, from, want);
         let told = auraski::unfork_prepared(cipher, &key.library, tweak, block, from, want, ends);
-        let counted =
-            meter::unfork_prepared(cipher, &key.library, tweak, block, from, want, before);
-        assert_eq!((told, counted), (number, answer));
+        assert_eq!([told, answer.number], [number; 2]);
         assert_eq!([input, other], [answer.input, answer.other]);
     }
 }
 
 /// The room too, which is as it was where a prepared key is not admitted.
 fn expect_sealing(call: &Call, key: &Both, number: u32) {
-    let [mut ours, mut metered, mut second] = [(); 3].map(|_| vec![BEFORE; call.room]);
+    let [mut ours, mut second] = [(); 2].map(|_| vec![BEFORE; call.room]);
     let calls = [sealing::seal_prepared, sealing::open_prepared];
     let answer = call.make_prepared(calls, &key.second, &mut second);
     let calls = [auraski::seal_prepared, auraski::open_prepared];
     let told = call.make_prepared(calls, &key.library, &mut ours);
-    let calls = [meter::seal_prepared, meter::open_prepared];
-    let counted = call.make_prepared(calls, &key.library, &mut metered);
-    assert_eq!((told, counted), (answer.told(), answer));
-    assert_eq!(
-        (answer.number, ours, metered),
-        (number, second.clone(), second)
-    );
+    assert_eq!((answer.number, told), (number, answer.told()));
+    assert_eq!(ours, second);
 }
 
 /// Runs a check under each cipher, with two prepared keys and something to do.

@@ -1,7 +1,7 @@
-//! The library's seal and open, through its C entry points, and the meter's, which
-//! tell rounds too, against the second program: number, length, every byte of the
-//! room, and the rounds, by key and with a prepared key; and the library's rounds
-//! of lengths.
+//! The library's seal and open, through its C entry points, by key and with a
+//! prepared key, and the meter's, which tell rounds too, against the second
+//! program: number, length, every byte of the room, and the rounds; and the
+//! library's rounds of lengths.
 
 mod both;
 mod damage;
