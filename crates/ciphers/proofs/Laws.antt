@@ -96,7 +96,8 @@ unfolding load unload
 load-unload Nibble s h = simp (join-high, join-low, h .low) (h .square)
 load-unload Byte s h = h .square
 
-split-join : (x : ℕ) → x < 256 → x / 16 % 16 * 16 + x % 16 % 16 ≡ x
+-- a byte's two nibbles, joined again
+pub split-join : (x : ℕ) → x < 256 → x / 16 % 16 * 16 + x % 16 % 16 ≡ x
 split-join x h = omega arith
 
 tab-length : (f : ℕ → ℕ) (n i : ℕ) → length (tab f i n) ≡ n

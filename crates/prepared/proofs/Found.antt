@@ -18,7 +18,7 @@ use Rattle.schedule.specs.Share.{shareCell}
 use Rattle.ciphers.specs.declared.Cipher.{Cipher}
 use Rattle.ciphers.specs.declared.Cipher.the-variants.{N64T192, N128T256}
 use Rattle.ciphers.specs.Ciphers.{widthOf, wordsOf, keyCells, tk, numberOf}
-use Rattle.ciphers.proofs.Laws.{tk-low}
+use Rattle.ciphers.proofs.Laws.{tk-low, split-join}
 use Rattle.modes.specs.Blocks.{same}
 use Rattle.modes.proofs.Bytes.{same-eq, same-refl}
 use Rattle.blocks.proofs.Collected.{or-none}
@@ -31,7 +31,7 @@ use Rattle.prepared.proofs.Loops.{agree-16}
 -- ---- preparing
 
 -- a key of sixteen bytes, brought into an array, is that key
-whole : (key : List ℕ) → length key ≡ 16 → take 16 key ++ replicate (16 - 16) 0 ≡ key
+pub whole : (key : List ℕ) → length key ≡ 16 → take 16 key ++ replicate (16 - 16) 0 ≡ key
 whole key e = append-nil (take 16 key) ∙ take-all 16 key (omega arith)
 
 pub made
@@ -63,9 +63,6 @@ cancel a b y = ap (λ (x : ℕ). bitXor x (bitXor a y)) (xor-comm a b) ∙ xor-a
 unstep : (b : ℕ) → b < 16 → times (step3 Nibble) 4 (bitXor b (step2 Nibble b)) ≡ b
 unfolding step2 step3
 unstep = below.same (λ b. times (step3 Nibble) 4 (bitXor b (step2 Nibble b))) (λ b. b) 16 tt
-
-split-join : (x : ℕ) → x < 256 → x / 16 % 16 * 16 + x % 16 % 16 ≡ x
-split-join x h = omega arith
 
 pub zeros-bytes : Bytes unmoving
 zeros-bytes = listed-bytes (λ k. 0) 16 (λ k. omega arith)

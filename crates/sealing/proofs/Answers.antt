@@ -2,12 +2,12 @@
 use mathlib.Core.Path.{_≡_, sym, ap, _∙_}
 use mathlib.Core.Logic.{_≢_}
 use mathlib.Core.Bool.{Bool, true, false, cond}
-use mathlib.Core.List.{List, [], _++_, append-nil}
+use mathlib.Core.List.{List, [], _++_}
 use Prim.Native.Nat.{ℕ, _+_, _-_}
 use native.Mathlib.Omega.{arith}
 use lib.Dec.{ltb}
-use lib.ListN.{length, take, drop, replicate}
-use lib.Seq.{take-all, drop-at}
+use lib.ListN.{length, drop, replicate}
+use lib.Seq.{drop-at}
 use borrow.Author.Tests.{ltb-false, ne-eqb}
 use Rattle.ciphers.specs.declared.Cipher.{Cipher}
 use Rattle.ciphers.specs.Ciphers.{blockOf}
@@ -31,10 +31,6 @@ told-refused k k′ t room e h = ap (λ (j : ℕ). refused j room) e ∙ sym (no
 
 told-passed : (k k′ : ℕ) (t : Told) (room : List ℕ) → k ≡ k′ → k ≡ 0 → t ≡ passed k′ t room
 told-passed k k′ t room e z = sym (ap (λ (j : ℕ). passed j t room) (sym e ∙ z))
-
--- the key as `front` made it
-pub key-same : (key K : List ℕ) → length key ≡ 16 → K ≡ take 16 key ++ replicate (16 - 16) 0 → K ≡ key
-key-same key K l e = e ∙ ap (λ (x : List ℕ). x ++ replicate (16 - 16) 0) (take-all 16 key (omega (arith, l))) ∙ append-nil key
 
 -- the checks see the length of the key that a share was made of
 pub key-length

@@ -1,9 +1,7 @@
 //! The library's calls once more, each with the rounds that it runs (C-13),
 //! which the C entry points do not tell: from libmeter.a, a second proved
-//! archive that is there for the comparison alone. A prepared key is the one that
-//! the library gives.
+//! archive that is there for the comparison alone.
 
-use crate::auraski::Prepared;
 use crate::calls::{Fork, Unfork};
 use crate::entries::{UNCOUNTED, UNWRITTEN};
 use crate::sealing::Answer;
@@ -15,22 +13,6 @@ type Entry = unsafe extern "C" fn(
     u32,
     *const u8,
     usize,
-    *const u8,
-    usize,
-    *const u8,
-    usize,
-    *const u8,
-    usize,
-    *mut u8,
-    usize,
-    *mut usize,
-    *mut u32,
-) -> u32;
-
-/// The same with a prepared key.
-type PreparedEntry = unsafe extern "C" fn(
-    u32,
-    *const u8,
     *const u8,
     usize,
     *const u8,
@@ -87,59 +69,6 @@ extern "C" {
         scheme: u32,
         key: *const u8,
         key_len: usize,
-        nonce: *const u8,
-        nonce_len: usize,
-        header: *const u8,
-        header_len: usize,
-        run: *const u8,
-        run_len: usize,
-        room: *mut u8,
-        room_len: usize,
-        length: *mut usize,
-        rounds: *mut u32,
-    ) -> u32;
-
-    fn meter_fork_prepared(
-        cipher: u32,
-        prepared: *const u8,
-        tweak: *const u8,
-        block: *const u8,
-        want: u32,
-        half0: *mut u8,
-        half1: *mut u8,
-        rounds: *mut u32,
-    ) -> u32;
-
-    fn meter_unfork_prepared(
-        cipher: u32,
-        prepared: *const u8,
-        tweak: *const u8,
-        block: *const u8,
-        from: u32,
-        want: u32,
-        input: *mut u8,
-        other: *mut u8,
-        rounds: *mut u32,
-    ) -> u32;
-
-    fn meter_seal_prepared(
-        scheme: u32,
-        prepared: *const u8,
-        nonce: *const u8,
-        nonce_len: usize,
-        header: *const u8,
-        header_len: usize,
-        body: *const u8,
-        body_len: usize,
-        room: *mut u8,
-        room_len: usize,
-        length: *mut usize,
-        rounds: *mut u32,
-    ) -> u32;
-
-    fn meter_open_prepared(
-        scheme: u32,
-        prepared: *const u8,
         nonce: *const u8,
         nonce_len: usize,
         header: *const u8,
@@ -276,127 +205,4 @@ pub fn open(
     room: &mut [u8],
 ) -> Answer {
     answer(meter_open, scheme, [key, nonce, header, run], room)
-}
-
-/// Forward with a prepared key; the result blocks as by key.
-pub fn fork_prepared(
-    cipher: u32,
-    prepared: &Prepared,
-    tweak: &Block,
-    block: &Block,
-    want: u32,
-    [mut half0, mut half1]: [Block; 2],
-) -> Fork {
-    let mut rounds = UNCOUNTED;
-    // As by key; the prepared key is a whole one.
-    let number = unsafe {
-        meter_fork_prepared(
-            cipher,
-            prepared.as_ptr(),
-            tweak.as_ptr(),
-            block.as_ptr(),
-            want,
-            half0.as_mut_ptr(),
-            half1.as_mut_ptr(),
-            &mut rounds,
-        )
-    };
-    Fork {
-        number,
-        half0,
-        half1,
-        rounds,
-    }
-}
-
-/// Back from a half with a prepared key; the result blocks as by key.
-pub fn unfork_prepared(
-    cipher: u32,
-    prepared: &Prepared,
-    tweak: &Block,
-    block: &Block,
-    from: u32,
-    want: u32,
-    [mut input, mut other]: [Block; 2],
-) -> Unfork {
-    let mut rounds = UNCOUNTED;
-    // As above.
-    let number = unsafe {
-        meter_unfork_prepared(
-            cipher,
-            prepared.as_ptr(),
-            tweak.as_ptr(),
-            block.as_ptr(),
-            from,
-            want,
-            input.as_mut_ptr(),
-            other.as_mut_ptr(),
-            &mut rounds,
-        )
-    };
-    Unfork {
-        number,
-        input,
-        other,
-        rounds,
-    }
-}
-
-/// One call of seal or open with a prepared key.
-fn answer_prepared(
-    entry: PreparedEntry,
-    scheme: u32,
-    prepared: &Prepared,
-    [nonce, header, text]: [&[u8]; 3],
-    room: &mut [u8],
-) -> Answer {
-    let (mut length, mut rounds) = (UNWRITTEN, UNCOUNTED);
-    // As by key; the prepared key is a whole one.
-    let number = unsafe {
-        entry(
-            scheme,
-            prepared.as_ptr(),
-            nonce.as_ptr(),
-            nonce.len(),
-            header.as_ptr(),
-            header.len(),
-            text.as_ptr(),
-            text.len(),
-            room.as_mut_ptr(),
-            room.len(),
-            &mut length,
-            &mut rounds,
-        )
-    };
-    Answer {
-        number,
-        length,
-        rounds,
-    }
-}
-
-/// Seals a body into the room.
-pub fn seal_prepared(
-    scheme: u32,
-    prepared: &Prepared,
-    nonce: &[u8],
-    header: &[u8],
-    body: &[u8],
-    room: &mut [u8],
-) -> Answer {
-    let parts = [nonce, header, body];
-    answer_prepared(meter_seal_prepared, scheme, prepared, parts, room)
-}
-
-/// Opens a sealed run into the room.
-pub fn open_prepared(
-    scheme: u32,
-    prepared: &Prepared,
-    nonce: &[u8],
-    header: &[u8],
-    run: &[u8],
-    room: &mut [u8],
-) -> Answer {
-    let parts = [nonce, header, run];
-    answer_prepared(meter_open_prepared, scheme, prepared, parts, room)
 }
