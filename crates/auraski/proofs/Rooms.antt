@@ -8,7 +8,7 @@ use lib.Seq.{getD-append-add, take-append-seam, take-all, drop-at}
 use Rattle.ciphers.specs.declared.Cipher.{Cipher}
 use Rattle.ciphers.specs.declared.Cipher.the-variants.{N64T192, N128T256}
 use Rattle.ciphers.specs.Ciphers.{numberOf, keyCells}
-use Rattle.prepared.specs.Prepared.{unmoving, shareOf, preparedOf}
+use Rattle.prepared.specs.Prepared.{unmoving, shareOf, preparedOf, recordOf}
 use Rattle.prepared.proofs.Loops.{shares-long}
 use Rattle.blocks.proofs.Over.{Laid, laid-none, laid-more, laid-all}
 use Rattle.auraski.specs.Rooms.{laidOut, recordIn}
@@ -40,6 +40,13 @@ module _ (c : ℕ) (share tweak : List ℕ) (e : length share ≡ 784) where
 pub given-record : (c : Cipher) (key : List ℕ) → recordIn (laidOut (numberOf c % 256) (shareOf c key) unmoving) ≡ preparedOf c key
 given-record N64T192 key = read-back 1 (shareOf N64T192 key) unmoving (shares-long N64T192 (keyCells N64T192 key unmoving)) refl
 given-record N128T256 key = read-back 2 (shareOf N128T256 key) unmoving (shares-long N128T256 (keyCells N128T256 key unmoving)) refl
+
+-- the parts that are read of a room are those of the record that it holds
+pub parts-in
+    : (room : List ℕ) {n : ℕ} {share moving : List ℕ} → n ≡ getD room 0 0 → share ≡ take 784 (drop 1 room) → moving ≡ take 16 (drop 785 room)
+    → recordOf n share moving ≡ recordIn room
+unfolding recordIn
+parts-in room a b c = λ i. recordOf (a i) (b i) (c i)
 
 -- ---- the loops
 

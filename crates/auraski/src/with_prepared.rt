@@ -1,16 +1,14 @@
 // The entry points for C with a prepared key, which is a room of 801 bytes to a C caller: the number of its cipher, its share, its moving part.
 ghost use mathlib.Core.Path.{_≡_};
-ghost use Prim.Native.Nat.{_≤_};
-ghost use lib.ListN.{length, take};
+ghost use lib.ListN.{length, take, drop, getD};
 ghost use Rattle.prepared.specs.Prepared.{prepareOf};
 ghost use Rattle.forkskinny.specs.Calls.{forkWith, unforkWith};
 ghost use Rattle.sealing.specs.Calls.{sealWith, openWith};
 ghost use Rattle.auraski.specs.Entries.{blocks, halvesIn, backIn, answered, answerIn};
 ghost use Rattle.auraski.specs.Rooms.{recordIn, laidOut, prepared, preparedIn};
 use blocks::front;
-use prepared::Prepared;
 
-fn share_in(part: &[u8]) -> [u8; 784]
+fn copied(part: &[u8]) -> [u8; 784]
     requires { ⌜ length (now part) ≡ 784 ⌝ }
     ensures { λ r. ⌜ r ≡ now (part .entry) ⌝ }
 {
@@ -21,18 +19,28 @@ fn share_in(part: &[u8]) -> [u8; 784]
     share
 }
 
-// The record that a room holds.
-fn record_in(room: &[u8]) -> Prepared
+// The parts of the record that a room holds: its share,
+fn share_in(room: &[u8]) -> [u8; 784]
     requires { ⌜ length (now room) ≡ 801 ⌝ }
-    ensures { λ r. ⌜ r ≡ recordIn (now (room .entry)) ⌝ }
+    ensures { λ r. ⌜ r ≡ take 784 (drop 1 (now (room .entry))) ⌝ }
 {
-    let share = share_in(&room[1..785]);
-    let tweak = front(&room[785..801], 16);
-    Prepared {
-        cipher: room[0] as u32,
-        share,
-        tweak,
-    }
+    copied(&room[1..785])
+}
+
+// its moving part,
+fn moving_in(room: &[u8]) -> [u8; 16]
+    requires { ⌜ length (now room) ≡ 801 ⌝ }
+    ensures { λ r. ⌜ r ≡ take 16 (drop 785 (now (room .entry))) ⌝ }
+{
+    front(&room[785..801], 16)
+}
+
+// and the number of its cipher.
+fn cipher_in(room: &[u8]) -> u32
+    requires { ⌜ length (now room) ≡ 801 ⌝ }
+    ensures { λ r. ⌜ r ≡ getD (now (room .entry)) 0 0 ⌝ }
+{
+    room[0] as u32
 }
 
 // A record laid out in a room.
@@ -77,7 +85,16 @@ pub extern "C" fn auraski_fork_prepared(
 ) -> u32
     ensures { λ r. ⌜ blocks r (now (half0 .exit)) (now (half1 .exit)) ≡ halvesIn (forkWith cipher (recordIn (now (key .entry))) (now (tweak .entry)) (now (block .entry)) want) ⌝ }
 {
-    let f = forkskinny::fork(cipher, record_in(key), *tweak, *block, want);
+    let share = share_in(key);
+    let f = forkskinny::fork_lent(
+        cipher,
+        cipher_in(key),
+        &share,
+        moving_in(key),
+        *tweak,
+        *block,
+        want,
+    );
     let a = f.half0;
     let b = f.half1;
     *half0 = a;
@@ -99,7 +116,17 @@ pub extern "C" fn auraski_unfork_prepared(
 ) -> u32
     ensures { λ r. ⌜ blocks r (now (input .exit)) (now (other .exit)) ≡ backIn (unforkWith cipher (recordIn (now (key .entry))) (now (tweak .entry)) (now (block .entry)) from want) ⌝ }
 {
-    let f = forkskinny::unfork(cipher, record_in(key), *tweak, *block, from, want);
+    let share = share_in(key);
+    let f = forkskinny::unfork_lent(
+        cipher,
+        cipher_in(key),
+        &share,
+        moving_in(key),
+        *tweak,
+        *block,
+        from,
+        want,
+    );
     let a = f.input;
     let b = f.other;
     *input = a;
@@ -120,7 +147,17 @@ pub extern "C" fn auraski_seal_prepared(
 ) -> u32
     ensures { λ r. ⌜ answered r (now (length .exit)) (now (room .exit)) ≡ answerIn (sealWith scheme (recordIn (now (key .entry))) (now (nonce .entry)) (now (header .entry)) (now (body .entry)) (now (room .entry))) ⌝ }
 {
-    let a = sealing::seal(scheme, record_in(key), nonce, header, body, room);
+    let share = share_in(key);
+    let a = sealing::seal_lent(
+        scheme,
+        cipher_in(key),
+        &share,
+        moving_in(key),
+        nonce,
+        header,
+        body,
+        room,
+    );
     *length = a.length;
     a.number
 }
@@ -138,7 +175,17 @@ pub extern "C" fn auraski_open_prepared(
 ) -> u32
     ensures { λ r. ⌜ answered r (now (length .exit)) (now (room .exit)) ≡ answerIn (openWith scheme (recordIn (now (key .entry))) (now (nonce .entry)) (now (header .entry)) (now (sealed .entry)) (now (room .entry))) ⌝ }
 {
-    let b = sealing::open(scheme, record_in(key), nonce, header, sealed, room);
+    let share = share_in(key);
+    let b = sealing::open_lent(
+        scheme,
+        cipher_in(key),
+        &share,
+        moving_in(key),
+        nonce,
+        header,
+        sealed,
+        room,
+    );
     *length = b.length;
     b.number
 }

@@ -31,11 +31,14 @@ pub fn load(part: &[u8], n: usize) -> [u8; 16]
         b[k] = 0x80;
         return b;
     }
+    if n == 16 {
+        return front(part, 16); // a known length: no call for the copy
+    }
     front(part, n)
 }
 
 // The first k bytes of a block to the front of the lent tail.
-pub fn store(rest: &mut [u8], block: [u8; 16], k: usize)
+fn put(rest: &mut [u8], block: [u8; 16], k: usize)
     requires { ⌜ (k ≤ 16) × (k ≤ length (now rest)) ⌝ }
     ensures { λ _. ⌜ now (rest .exit) ≡ take k block ++ drop k (now (rest .entry)) ⌝ }
 {
@@ -44,6 +47,18 @@ pub fn store(rest: &mut [u8], block: [u8; 16], k: usize)
         rest[i] = block[i];
         i += 1;
     }
+}
+
+// The same, a whole block apart.
+pub fn store(rest: &mut [u8], block: [u8; 16], k: usize)
+    requires { ⌜ (k ≤ 16) × (k ≤ length (now rest)) ⌝ }
+    ensures { λ _. ⌜ now (rest .exit) ≡ take k block ++ drop k (now (rest .entry)) ⌝ }
+{
+    if k == 16 {
+        put(rest, block, 16); // a known length: no call for the copy
+        return;
+    }
+    put(rest, block, k);
 }
 
 // Zeros to the first k bytes.

@@ -1,7 +1,7 @@
 // The ciphers: their sizes, blocks and keys as cells, the branch constant, and what a block call makes once: the round keys.
 ghost use mathlib.Core.Path.{_≡_};
 ghost use Prim.Native.Nat.{_≤_};
-ghost use lib.ListN.{length};
+ghost use lib.ListN.{length, replicate};
 ghost use Rattle.cells.specs.Cells.{Nibble, Byte, Bytes};
 ghost use Rattle.constants.specs.Constants.{Room};
 ghost use Rattle.schedule.specs.declared.Tweakey.{Tweakey};
@@ -146,8 +146,8 @@ pub fn unload_state(c: Cipher, s: [[u8; 4]; 4]) -> [u8; 16]
     }
 }
 
-fn key_64_192(key: [u8; 16], tweak: [u8; 16]) -> [u8; 48]
-    ensures { λ r. ⌜ r ≡ keyCells Cipher.N64T192 key tweak ⌝ }
+fn key_nibbles(key: [u8; 16]) -> [u8; 48]
+    ensures { λ r. ⌜ r ≡ keyCells Cipher.N64T192 key (replicate 16 0) ⌝ }
 {
     [
         key[0] / 16,
@@ -182,27 +182,27 @@ fn key_64_192(key: [u8; 16], tweak: [u8; 16]) -> [u8; 48]
         key[14] % 16,
         key[15] / 16,
         key[15] % 16,
-        tweak[0] / 16,
-        tweak[0] % 16,
-        tweak[1] / 16,
-        tweak[1] % 16,
-        tweak[2] / 16,
-        tweak[2] % 16,
-        tweak[3] / 16,
-        tweak[3] % 16,
-        tweak[4] / 16,
-        tweak[4] % 16,
-        tweak[5] / 16,
-        tweak[5] % 16,
-        tweak[6] / 16,
-        tweak[6] % 16,
-        tweak[7] / 16,
-        tweak[7] % 16,
+        0,
+        0,
+        0,
+        0,
+        0,
+        0,
+        0,
+        0,
+        0,
+        0,
+        0,
+        0,
+        0,
+        0,
+        0,
+        0,
     ]
 }
 
-fn key_128_256(key: [u8; 16], tweak: [u8; 16]) -> [u8; 48]
-    ensures { λ r. ⌜ r ≡ keyCells Cipher.N128T256 key tweak ⌝ }
+fn key_bytes(key: [u8; 16]) -> [u8; 48]
+    ensures { λ r. ⌜ r ≡ keyCells Cipher.N128T256 key (replicate 16 0) ⌝ }
 {
     [
         key[0],
@@ -221,22 +221,22 @@ fn key_128_256(key: [u8; 16], tweak: [u8; 16]) -> [u8; 48]
         key[13],
         key[14],
         key[15],
-        tweak[0],
-        tweak[1],
-        tweak[2],
-        tweak[3],
-        tweak[4],
-        tweak[5],
-        tweak[6],
-        tweak[7],
-        tweak[8],
-        tweak[9],
-        tweak[10],
-        tweak[11],
-        tweak[12],
-        tweak[13],
-        tweak[14],
-        tweak[15],
+        0,
+        0,
+        0,
+        0,
+        0,
+        0,
+        0,
+        0,
+        0,
+        0,
+        0,
+        0,
+        0,
+        0,
+        0,
+        0,
         0,
         0,
         0,
@@ -256,17 +256,17 @@ fn key_128_256(key: [u8; 16], tweak: [u8; 16]) -> [u8; 48]
     ]
 }
 
-// The key and then the tweak, before the first round.
-pub fn load_key(c: Cipher, key: [u8; 16], tweak: [u8; 16]) -> Tweakey
-    ensures { λ r. ⌜ r ≡ tk c key tweak ⌝ }
+// The key before the first round, and zeros for the tweak.
+pub fn load_key(c: Cipher, key: [u8; 16]) -> Tweakey
+    ensures { λ r. ⌜ r ≡ tk c key (replicate 16 0) ⌝ }
 {
     match c {
         Cipher::N64T192 => {
-            let cells = key_64_192(key, tweak);
+            let cells = key_nibbles(key);
             Tweakey { cells, at: 0 }
         }
         Cipher::N128T256 => {
-            let cells = key_128_256(key, tweak);
+            let cells = key_bytes(key);
             Tweakey { cells, at: 0 }
         }
     }
@@ -316,16 +316,6 @@ fn tweak_bytes(tweak: [u8; 16]) -> [u8; 16]
         tweak[14],
         tweak[15],
     ]
-}
-
-// The word of a tweak.
-pub fn load_tweak(c: Cipher, tweak: [u8; 16]) -> [u8; 16]
-    ensures { λ r. ⌜ r ≡ tweakCells c tweak ⌝ }
-{
-    match c {
-        Cipher::N64T192 => tweak_nibbles(tweak),
-        Cipher::N128T256 => tweak_bytes(tweak),
-    }
 }
 
 // ---- the branch constant
@@ -398,14 +388,15 @@ pub fn bytes_known(s: &[u8])
     nothing();
 }
 
-// The keys of the first m rounds, laid on the constants, from a key's share and the cells of a tweak.
+// The keys of the first m rounds, laid on the constants, from a key's share and a tweak. (The cells of a tweak are made in each case: so the
+// compiler keeps them together.)
 pub fn lay_keys(c: Cipher, keys: &mut [[u8; 8]; 97], m: usize, share: &[u8; 784], tweak: [u8; 16])
     requires { ⌜ (m ≤ 87) × Room (now keys) ⌝ }
-    ensures { λ r. ⌜ (length (now (keys .exit)) ≡ 97) × ((t : Tweakey) → Parts (widthOf c) (wordsOf c) t (now (share .entry)) tweak → RoundKeys (widthOf c) (wordsOf c) m t (now (keys .exit))) ⌝ }
+    ensures { λ r. ⌜ (length (now (keys .exit)) ≡ 97) × ((t : Tweakey) → Parts (widthOf c) (wordsOf c) t (now (share .entry)) (tweakCells c tweak) → RoundKeys (widthOf c) (wordsOf c) m t (now (keys .exit))) ⌝ }
 {
     match c {
-        Cipher::N64T192 => schedule::lay_keys_64_192(keys, m, share, tweak),
-        Cipher::N128T256 => schedule::lay_keys_128_256(keys, m, share, tweak),
+        Cipher::N64T192 => schedule::lay_keys_64_192(keys, m, share, tweak_nibbles(tweak)),
+        Cipher::N128T256 => schedule::lay_keys_128_256(keys, m, share, tweak_bytes(tweak)),
     }
 }
 

@@ -4,11 +4,11 @@ pub mod by_cipher;
 ghost use mathlib.Core.Path.{_≡_};
 ghost use mathlib.Core.Bool.{true};
 ghost use mathlib.Core.List.{List};
-ghost use Prim.Native.Nat.{ℕ, _+_, _≤_};
+ghost use Prim.Native.Nat.{ℕ, _+_, _<_, _≤_};
 ghost use Rattle.schedule.specs.declared.Tweakey.{Tweakey};
 ghost use Rattle.schedule.specs.Schedule.{RoundKeys};
 ghost use Rattle.ciphers.specs.Ciphers.{widthOf, wordsOf, initOf, branchOf, tk};
-ghost use Rattle.prepared.specs.Prepared.{keyIn, Made};
+ghost use Rattle.prepared.specs.Prepared.{keyIn, recordOf, Made};
 ghost use Rattle.kept.specs.Kept.{Lent};
 ghost use Rattle.forkskinny.specs.declared.Branch.the-variants.{Near, Far};
 ghost use Rattle.forkskinny.specs.ForkSkinny.{sideOf, otherOf, startOf, enter, forked, branch, unbranch, unforked};
@@ -245,7 +245,7 @@ fn fork_refused(number: u32) -> Forked
 
 // The rounds whose keys a call forward takes.
 pub fn fork_reach(c: Cipher, want: u32) -> usize
-    ensures { λ r. ⌜ (r ≡ forkReach c want) × (r ≤ 87) ⌝ }
+    ensures { λ r. ⌜ (r ≡ forkReach c want) × (0 < r) × (r ≤ 87) ⌝ }
 {
     let first = is_wanted(0, want);
     let second = is_wanted(1, want);
@@ -347,30 +347,54 @@ pub fn fork_by_key(
     fork_refused(1)
 }
 
-fn fork_under(c: Cipher, key: Prepared, tweak: [u8; 16], block: [u8; 16], want: u32) -> Forked
-    ensures { λ r. ⌜ r ≡ forkUnder c key tweak block want ⌝ }
+fn fork_under(
+    c: Cipher,
+    own: u32,
+    share: &[u8; 784],
+    moving: [u8; 16],
+    tweak: [u8; 16],
+    block: [u8; 16],
+    want: u32,
+) -> Forked
+    ensures { λ r. ⌜ r ≡ forkUnder c (recordOf own (now (share .entry)) moving) tweak block want ⌝ }
 {
-    if prepared::judge(c, key) {
-        let share = key.share;
-        return fork_by(c, &share, tweak, block, want);
+    if prepared::judge(c, own, share, moving) {
+        return fork_by(c, share, tweak, block, want);
     }
     fork_refused(2)
 }
 
-// The same with a prepared key. Refused with 2, after 1, where it is not one of this cipher's.
-pub fn fork(cipher: u32, key: Prepared, tweak: [u8; 16], block: [u8; 16], want: u32) -> Forked
-    ensures { λ r. ⌜ r ≡ forkWith cipher key tweak block want ⌝ }
+// The same with a prepared key, whose share is lent. Refused with 2, after 1, where it is not one of this cipher's.
+pub fn fork_lent(
+    cipher: u32,
+    own: u32,
+    share: &[u8; 784],
+    moving: [u8; 16],
+    tweak: [u8; 16],
+    block: [u8; 16],
+    want: u32,
+) -> Forked
+    ensures { λ r. ⌜ r ≡ forkWith cipher (recordOf own (now (share .entry)) moving) tweak block want ⌝ }
 {
     if 2 < want {
         return fork_refused(1);
     }
     if cipher == 1 {
-        return fork_under(Cipher::N64T192, key, tweak, block, want);
+        return fork_under(Cipher::N64T192, own, share, moving, tweak, block, want);
     }
     if cipher == 2 {
-        return fork_under(Cipher::N128T256, key, tweak, block, want);
+        return fork_under(Cipher::N128T256, own, share, moving, tweak, block, want);
     }
     fork_refused(1)
+}
+
+// The same with a prepared key.
+pub fn fork(cipher: u32, key: Prepared, tweak: [u8; 16], block: [u8; 16], want: u32) -> Forked
+    ensures { λ r. ⌜ r ≡ forkWith cipher key tweak block want ⌝ }
+{
+    let share = key.share;
+    let moving = key.tweak;
+    fork_lent(cipher, key.cipher, &share, moving, tweak, block, want)
 }
 
 // The rounds of a call back: those of the branch whose half is given, those before the fork where the input is asked for, and those of
@@ -405,7 +429,7 @@ fn unfork_refused(number: u32) -> Unforked
 
 // The rounds whose keys a call back takes.
 pub fn unfork_reach(c: Cipher, from: u32, want: u32) -> usize
-    ensures { λ r. ⌜ (r ≡ unforkReach c from want) × (r ≤ 87) ⌝ }
+    ensures { λ r. ⌜ (r ≡ unforkReach c from want) × (0 < r) × (r ≤ 87) ⌝ }
 {
     let second = is_wanted(1, want);
     reach_of(c, takes_far(true, from, second, other_of(from)))
@@ -534,22 +558,69 @@ pub fn unfork_by_key(
 
 fn unfork_under(
     c: Cipher,
-    key: Prepared,
+    own: u32,
+    share: &[u8; 784],
+    moving: [u8; 16],
     tweak: [u8; 16],
     block: [u8; 16],
     from: u32,
     want: u32,
 ) -> Unforked
-    ensures { λ r. ⌜ r ≡ unforkUnder c key tweak block from want ⌝ }
+    ensures { λ r. ⌜ r ≡ unforkUnder c (recordOf own (now (share .entry)) moving) tweak block from want ⌝ }
 {
-    if prepared::judge(c, key) {
-        let share = key.share;
-        return unfork_by(c, &share, tweak, block, from, want);
+    if prepared::judge(c, own, share, moving) {
+        return unfork_by(c, share, tweak, block, from, want);
     }
     unfork_refused(2)
 }
 
-// The same with a prepared key. Refused with 2, after 1, where it is not one of this cipher's.
+// The same with a prepared key, whose share is lent. Refused with 2, after 1, where it is not one of this cipher's.
+pub fn unfork_lent(
+    cipher: u32,
+    own: u32,
+    share: &[u8; 784],
+    moving: [u8; 16],
+    tweak: [u8; 16],
+    block: [u8; 16],
+    from: u32,
+    want: u32,
+) -> Unforked
+    ensures { λ r. ⌜ r ≡ unforkWith cipher (recordOf own (now (share .entry)) moving) tweak block from want ⌝ }
+{
+    if 1 < from {
+        return unfork_refused(1);
+    }
+    if 2 < want {
+        return unfork_refused(1);
+    }
+    if cipher == 1 {
+        return unfork_under(
+            Cipher::N64T192,
+            own,
+            share,
+            moving,
+            tweak,
+            block,
+            from,
+            want,
+        );
+    }
+    if cipher == 2 {
+        return unfork_under(
+            Cipher::N128T256,
+            own,
+            share,
+            moving,
+            tweak,
+            block,
+            from,
+            want,
+        );
+    }
+    unfork_refused(1)
+}
+
+// The same with a prepared key.
 pub fn unfork(
     cipher: u32,
     key: Prepared,
@@ -560,17 +631,7 @@ pub fn unfork(
 ) -> Unforked
     ensures { λ r. ⌜ r ≡ unforkWith cipher key tweak block from want ⌝ }
 {
-    if 1 < from {
-        return unfork_refused(1);
-    }
-    if 2 < want {
-        return unfork_refused(1);
-    }
-    if cipher == 1 {
-        return unfork_under(Cipher::N64T192, key, tweak, block, from, want);
-    }
-    if cipher == 2 {
-        return unfork_under(Cipher::N128T256, key, tweak, block, from, want);
-    }
-    unfork_refused(1)
+    let share = key.share;
+    let moving = key.tweak;
+    unfork_lent(cipher, key.cipher, &share, moving, tweak, block, from, want)
 }

@@ -1,13 +1,12 @@
 -- Two tweaks that differ in their last byte alone: what that changes in the tweakey, and what is then kept. Assumes nothing.
 use mathlib.Core.Path.{_≡_, refl, sym, ap, _∙_, subst}
-use mathlib.Core.Bool.{true}
 use mathlib.Core.List.{List, _++_}
 use Prim.Native.Nat.{ℕ, zero, suc, _+_, _-_, _/_, _%_, _<_, _≤_}
 use native.Mathlib.Decide.{decLt}
 use native.Mathlib.Omega.{arith}
 use lib.Bits.{bitXor, xor-shr, xor-mod, xor-zero-r}
-use lib.ListN.{length, getD, take}
-use lib.Seq.{getD-take}
+use lib.ListN.{length, getD, take, set}
+use lib.Seq.{ext-getD, getD-take, getD-set-other, length-take-le}
 use Rattle.cells.specs.Cells.{Bytes, Nibble, Byte}
 use Rattle.cells.proofs.Xor.{xor-first}
 use Rattle.schedule.specs.declared.Tweakey.{Tweakey}
@@ -17,8 +16,6 @@ use Rattle.ciphers.specs.declared.Cipher.{Cipher}
 use Rattle.ciphers.specs.declared.Cipher.the-variants.{N64T192, N128T256}
 use Rattle.ciphers.specs.Ciphers.{widthOf, wordsOf, blockOf, cellOf, nibbleFrom, sixteen, keyCells, tk}
 use Rattle.ciphers.proofs.Laws.{tk-at, tk-low}
-use Rattle.modes.specs.Blocks.{same}
-use Rattle.modes.proofs.Bytes.{same-eq}
 use Rattle.prepared.specs.Prepared.{keyIn}
 use Rattle.prepared.proofs.Found.{key-block}
 use Rattle.prepared.proofs.Listed.{listed-same}
@@ -53,6 +50,17 @@ none x y z = sym (xor-zero-r x) ∙ ap (bitXor x) (sym z) ∙ xor-first x y
 -- a difference xored in
 over : (x y d : ℕ) → d ≡ bitXor x y → y ≡ bitXor x d
 over x y d e = sym (ap (bitXor x) e ∙ xor-first x y)
+
+-- a byte put behind the front of a list leaves the front
+pub put-last
+    : (n x : ℕ) (a b : List ℕ) → 0 < n → n ≤ length a → n ≤ length b → take n (set a (n - 1) x) ≡ take n b → take (n - 1) a ≡ take (n - 1) b
+put-last n x a b some p q e =
+    ext-getD 0 (take (n - 1) a) (take (n - 1) b) (wide a p ∙ sym (wide b q))
+    (λ j h. let l : j < n - 1 = omega (arith, wide a p) in
+    getD-take (n - 1) a j 0 l ∙ sym (getD-set-other a (n - 1) j x 0 (λ o. omega arith)) ∙ sym (getD-take n (set a (n - 1) x) j 0 (omega arith))
+    ∙ ap (λ (l : List ℕ). getD l j 0) e ∙ getD-take n b j 0 (omega arith) ∙ sym (getD-take (n - 1) b j 0 l)) where
+      wide : (l : List ℕ) → n ≤ length l → length (take (n - 1) l) ≡ n - 1
+      wide l h = length-take-le (n - 1) l (omega arith)
 
 -- ---- the tweakey
 
@@ -108,14 +116,14 @@ module _ (key : List ℕ) where
 -- ---- what is kept
 
 -- N is the block's size as the code has it
-module _ (c : Cipher) {share : List ℕ} (tweak : List ℕ) {keys : List (List ℕ)} {kept : Kept} {m : ℕ} (N : ℕ) (s : Keeps c share kept keys) (h : m ≤ kept .rounds)
-    (size : N ≡ blockOf c) (w : length tweak ≡ 16) (p : same (take (N - 1) (kept .tweak)) (take (N - 1) tweak) ≡ true) where
+module _ (c : Cipher) {share : List ℕ} (tweak : List ℕ) {keys : List (List ℕ)} {kept : Kept} {m : ℕ} (N : ℕ) (s : Keeps c share kept keys) (some : 0 < m)
+    (h : m ≤ kept .rounds) (size : N ≡ blockOf c) (w : length tweak ≡ 16) (p : take (N - 1) (kept .tweak) ≡ take (N - 1) tweak) where
   abbrev d : ℕ
   d = bitXor (getD (kept .tweak) (N - 1) 0) (getD tweak (N - 1) 0)
 
   f : Front (blockOf c - 1) (kept .tweak) tweak
   f = subst (λ (n : ℕ). Front (n - 1) (kept .tweak) tweak) size
-      (front-same (kept .tweak) tweak (same-eq (take (N - 1) (kept .tweak)) (take (N - 1) tweak) p))
+      (front-same (kept .tweak) tweak p)
 
   e : d ≡ bitXor (getD (kept .tweak) (blockOf c - 1) 0) (getD tweak (blockOf c - 1) 0)
   e = ap (λ (n : ℕ). bitXor (getD (kept .tweak) (n - 1) 0) (getD tweak (n - 1) 0)) size
@@ -132,6 +140,7 @@ module _ (c : Cipher) {share : List ℕ} (tweak : List ℕ) {keys : List (List �
           most = s .most;
           long = s .long;
           keyed = subst (λ (t : Tweakey). RoundKeys (widthOf c) (wordsOf c) (kept .rounds) t keys) (cells-same (keyIn c share) c (kept .tweak) tweak all) (s .keyed);
+          fresh = λ z. absurd (omega arith);
         };
       } where
         whole : (c : Cipher) → blockOf c - 1 + 1 ≡ blockOf c
@@ -154,5 +163,6 @@ module _ (c : Cipher) {share : List ℕ} (tweak : List ℕ) {keys : List (List �
       keyed =
           let key = keyIn c share in
           change (tk c key (kept .tweak)) (tk c key tweak) (changed key (kept .tweak) tweak d c (key-block c share .bytes) b f e) (s .keyed);
+      fresh = λ z. absurd (omega arith);
     };
   }

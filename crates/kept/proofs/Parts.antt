@@ -1,10 +1,11 @@
 -- The share that a key gives, and the word of a tweak, are the parts of the tweakey of both; what is then laid, and kept. Assumes nothing.
-use mathlib.Core.Path.{_≡_, refl, sym, ap, _∙_, subst, subst⁻¹}
+use mathlib.Core.Path.{_≡_, refl, sym, ap, _∙_}
 use mathlib.Core.List.{List}
 use Prim.Native.Nat.{ℕ, _+_, _*_, _<_, _≤_}
 use native.Mathlib.Omega.{arith}
 use lib.ListN.{length, getD}
 use Rattle.cells.specs.Cells.{Bytes, Nibble, Byte, Two, Three}
+use Rattle.constants.specs.Constants.{Room}
 use Rattle.schedule.specs.declared.Tweakey.{Tweakey}
 use Rattle.schedule.specs.Schedule.{RoundKeys}
 use Rattle.schedule.specs.Share.{shareCell, tweakAt, Parts}
@@ -44,27 +45,28 @@ parts c share tweak e b =
 
 -- ---- what is kept
 
-pub none-kept : (c : Cipher) (share : List ℕ) (keys : List (List ℕ)) → length keys ≡ 97 → Keeps c share nothing keys
-none-kept c share keys e =
+pub none-kept : (c : Cipher) (share : List ℕ) (keys : List (List ℕ)) → Room keys → Keeps c share nothing keys
+none-kept c share keys r =
     let key = keyIn c share in record {
       wide = refl;
       most = omega arith;
-      long = e;
+      long = r .long;
       keyed = record { first = tk-at c key unmoving; low = tk-low c key unmoving (key-block c share .bytes) zeros-bytes; at = λ i p. absurd (omega arith) };
+      fresh = λ e. r;
     }
 
 pub laid-anew
-    : (c : Cipher) (share tweak : List ℕ) {cells : List ℕ} {keys : List (List ℕ)} (m : ℕ) → m ≤ 87 → Made c share → Bytes tweak → length tweak ≡ 16 → length keys ≡ 97
-    → cells ≡ tweakCells c tweak
-    → ((t : Tweakey) → Parts (widthOf c) (wordsOf c) t share cells → RoundKeys (widthOf c) (wordsOf c) m t keys)
+    : (c : Cipher) (share tweak : List ℕ) {keys : List (List ℕ)} (m : ℕ) → 0 < m → m ≤ 87 → Made c share → Bytes tweak → length tweak ≡ 16 → length keys ≡ 97
+    → ((t : Tweakey) → Parts (widthOf c) (wordsOf c) t share (tweakCells c tweak) → RoundKeys (widthOf c) (wordsOf c) m t keys)
     → TurnedTo c share tweak m (record { tweak = tweak; rounds = m }) keys
-laid-anew c share tweak {cells} {keys} m h e b w l f laid = record {
+laid-anew c share tweak m some h e b w l laid = record {
   tweaked = refl;
   enough = omega arith;
   keeps = record {
     wide = w;
     most = h;
     long = l;
-    keyed = laid (tk c (keyIn c share) tweak) (subst⁻¹ (Parts (widthOf c) (wordsOf c) (tk c (keyIn c share) tweak) share) f (parts c share tweak e b));
+    keyed = laid (tk c (keyIn c share) tweak) (parts c share tweak e b);
+    fresh = λ z. absurd (omega arith);
   };
 }

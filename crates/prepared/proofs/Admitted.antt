@@ -1,6 +1,6 @@
 -- Which records are admitted (C-16), for every value of a record. Assumes nothing.
 use mathlib.Core.Path.{_≡_, refl, sym, ap, _∙_}
-use mathlib.Core.Bool.{Bool, true, false, cond, _&&_, true≢false}
+use mathlib.Core.Bool.{Bool, true, false, cond, _&&_}
 use mathlib.Core.List.{List, []}
 use mathlib.Core.Logic.{_≢_}
 use Prim.Native.Nat.{ℕ}
@@ -18,12 +18,9 @@ use Rattle.prepared.specs.declared.Prepared.{Prepared}
 use Rattle.prepared.specs.declared.Preparation.{Preparation}
 use Rattle.prepared.specs.Prepared.{unmoving, shareOf, preparedOf, noRecord, refusedWith, prepareOf, keyIn, Made, Admitted, admitted, keyOf}
 use Rattle.prepared.proofs.Found.{key-back, key-block}
+use Rattle.prepared.proofs.Repeats.{and-true}
 
 -- ---- the check decides it
-
-and-true : (a b : Bool) → (a && b) ≡ true → (a ≡ true) × (b ≡ true)
-and-true true b e = (refl, e)
-and-true false b e = absurd (true≢false (sym e))
 
 -- no record is taken but one that a key gives ..
 pub only-admitted : (c : Cipher) (r : Prepared) → admitted c r ≡ true → Admitted c r
@@ -46,9 +43,12 @@ all-admitted c r (key, b, e) = ap (admitted c) e ∙ made-admitted c key b
 
 -- ---- the key that a record stands for: the one that it was made of, or none
 
-pub key-of : (c : Cipher) (key : List ℕ) → Block 16 key → keyOf c (preparedOf c key) ≡ key
+pub key-if : (c : Cipher) (r : Prepared) → admitted c r ≡ true → keyOf c r ≡ keyIn c (r .share)
 unfolding keyOf
-key-of c key b = ap (λ (t : Bool). cond t (keyIn c (shareOf c key)) []) (made-admitted c key b) ∙ key-back c key b
+key-if c r e = ap (λ (t : Bool). cond t (keyIn c (r .share)) []) e
+
+pub key-of : (c : Cipher) (key : List ℕ) → Block 16 key → keyOf c (preparedOf c key) ≡ key
+key-of c key b = key-if c (preparedOf c key) (made-admitted c key b) ∙ key-back c key b
 
 pub key-none : (c : Cipher) (r : Prepared) → admitted c r ≡ false → keyOf c r ≡ []
 unfolding keyOf

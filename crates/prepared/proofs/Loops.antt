@@ -1,17 +1,16 @@
 -- What the loops of `prepared` keep: rows of a share, laid cell by cell, and the words that are read out of one. Assumes nothing.
-use mathlib.Core.Path.{_≡_, refl, sym, ap, ap₂, _∙_, subst, subst⁻¹}
+use mathlib.Core.Path.{_≡_, refl, sym, ap, ap₂, _∙_, subst}
 use mathlib.Core.List.{List, _++_}
-use Prim.Native.Nat.{ℕ, zero, suc, _+_, _*_, _-_, _/_, _%_, _<_, _≤_}
+use Prim.Native.Nat.{ℕ, suc, _+_, _*_, _-_, _/_, _%_, _<_, _≤_}
 use native.Mathlib.Decide.{decLt, ℕ-discrete}
 use native.Mathlib.Omega.{arith}
 use lib.Bits.{bitXor}
-use lib.ListN.{length, getD, set, replicate, length-set, length-replicate}
+use lib.ListN.{length, getD, set, take, drop, replicate, length-set, length-replicate}
 use lib.Seq.{getD-set-same, getD-set-other, ext-getD}
-use Rattle.cells.specs.Cells.{Nibble, Byte, Two, Three, step2}
+use Rattle.cells.specs.Cells.{Nibble, Three, step2}
 use Rattle.schedule.specs.Sixteen.{times}
 use Rattle.schedule.specs.Share.{shareCell}
 use Rattle.ciphers.specs.declared.Cipher.{Cipher}
-use Rattle.ciphers.specs.declared.Cipher.the-variants.{N64T192, N128T256}
 use Rattle.ciphers.specs.Ciphers.{widthOf, wordsOf}
 use Rattle.blocks.proofs.Over.{Laid, laid-none, laid-more, laid-all}
 use Rattle.prepared.specs.Prepared.{sharesOf, listed, first, second, wordsIn, joined}
@@ -19,9 +18,10 @@ use Rattle.prepared.proofs.Listed.{listed-at, listed-long}
 
 -- ---- a share, over the cipher
 
--- the first i cells of a share are laid into an array of zeros
-abbrev pub SharesLaid : Cipher → List ℕ → ℕ → List ℕ → Type 0
-SharesLaid c t i share = Laid (sharesOf c t) (replicate 784 0) i share
+-- the first i cells of a share are laid into a room d for one
+pub record SharesLaid (c : Cipher) (t d : List ℕ) (i : ℕ) (share : List ℕ) : Type 0 where
+  pub room : length d ≡ 784
+  pub laid : Laid (sharesOf c t) d i share
 
 pub shares-long : (c : Cipher) (t : List ℕ) → length (sharesOf c t) ≡ 784
 unfolding sharesOf
@@ -35,22 +35,33 @@ shares-at c t k j p q =
     listed-at (λ i. shareCell (widthOf c) (wordsOf c) t (i / 16) (i % 16)) 784 (16 * k + j) (omega arith)
     ∙ ap₂ (shareCell (widthOf c) (wordsOf c) t) row place
 
-pub shares-none : (c : Cipher) (t : List ℕ) → SharesLaid c t (16 * 0 + 0) (replicate 784 0)
-shares-none c t = laid-none (sharesOf c t) (replicate 784 0)
+pub shares-none : (c : Cipher) (t d : List ℕ) → length d ≡ 784 → SharesLaid c t d (16 * 0 + 0) d
+shares-none c t d l = record { room = l; laid = laid-none (sharesOf c t) d }
 
-pub shares-more
-    : (c : Cipher) (t : List ℕ) {share : List ℕ} (k j v : ℕ) → k < 49 → j < 16 → v ≡ shareCell (widthOf c) (wordsOf c) t k j
-    → SharesLaid c t (16 * k + j) share → SharesLaid c t (16 * k + (j + 1)) (set share (16 * k + j) v)
-shares-more c t {share} k j v p q e s =
-    let on : 16 * k + j + 1 ≡ 16 * k + (j + 1) = omega arith in
-    subst (λ (i : ℕ). SharesLaid c t i (set share (16 * k + j) v)) on
-    (laid-more s (e ∙ sym (shares-at c t k j p q)) (omega (arith, shares-long c t)) (omega (arith, length-replicate {A = ℕ} 784 0)))
+module _ (c : Cipher) (t : List ℕ) {d share : List ℕ} (k : ℕ) where
+  pub shares-more
+      : (j v : ℕ) → k < 49 → j < 16 → v ≡ shareCell (widthOf c) (wordsOf c) t k j
+      → SharesLaid c t d (16 * k + j) share → SharesLaid c t d (16 * k + (j + 1)) (set share (16 * k + j) v)
+  shares-more j v p q e s =
+      let on : 16 * k + j + 1 ≡ 16 * k + (j + 1) = omega arith in
+      record {
+        room = s .room;
+        laid =
+            subst (λ (i : ℕ). Laid (sharesOf c t) d i (set share (16 * k + j) v)) on
+            (laid-more (s .laid) (e ∙ sym (shares-at c t k j p q)) (omega (arith, shares-long c t)) (omega (arith, s .room)));
+      }
 
-pub shares-next : (c : Cipher) (t : List ℕ) {share : List ℕ} (k j : ℕ) → j ≡ 16 → SharesLaid c t (16 * k + j) share → SharesLaid c t (16 * (k + 1) + 0) share
-shares-next c t {share} k j e s = let on : 16 * k + j ≡ 16 * (k + 1) + 0 = omega arith in subst (λ (i : ℕ). SharesLaid c t i share) on s
+  pub shares-next : (j : ℕ) → j ≡ 16 → SharesLaid c t d (16 * k + j) share → SharesLaid c t d (16 * (k + 1) + 0) share
+  shares-next j e s = let on : 16 * k + j ≡ 16 * (k + 1) + 0 = omega arith in subst (λ (i : ℕ). SharesLaid c t d i share) on s
 
-pub shares-all : (c : Cipher) (t : List ℕ) {share : List ℕ} (k : ℕ) → k ≡ 49 → SharesLaid c t (16 * k + 0) share → share ≡ sharesOf c t
-shares-all c t k e s = laid-all s (shares-long c t) (omega arith) (omega (arith, length-replicate {A = ℕ} 784 0))
+  -- n rows are laid
+  pub shares-rows : (n : ℕ) → k ≡ n → SharesLaid c t d (16 * k + 0) share → share ≡ take (16 * n) (sharesOf c t) ++ drop (16 * n) d
+  shares-rows n e s =
+      let i : 16 * k + 0 ≡ 16 * n = omega arith in s .laid .said ∙ ap (λ (i : ℕ). take i (sharesOf c t) ++ drop i d) i
+
+  -- all of them
+  pub shares-all : k ≡ 49 → SharesLaid c t d (16 * k + 0) share → share ≡ sharesOf c t
+  shares-all e s = laid-all (s .laid) (shares-long c t) (omega arith) (omega (arith, s .room))
 
 -- ---- the cells of 64-192 on the way: k rows are laid, and j cells of the next
 

@@ -39,6 +39,10 @@ shareOf c key = sharesOf c (keyCells c key unmoving)
 abbrev pub preparedOf : Cipher → (key : List ℕ) → Prepared
 preparedOf c key = record { cipher = numberOf c; share = shareOf c key; tweak = unmoving }
 
+-- a record, by its parts
+abbrev pub recordOf : ℕ → (share tweak : List ℕ) → Prepared
+recordOf cipher share tweak = record { cipher = cipher; share = share; tweak = tweak }
+
 -- ---- what preparing answers: 0 and the record, or a number and one fixed record; 1 before 2 (C-16)
 
 abbrev pub noRecord : Prepared

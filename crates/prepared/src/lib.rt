@@ -1,9 +1,13 @@
 // A key prepared for a cipher: its share of every round, worked out once, to serve many records. Every call takes such a record, and judges
 // it before it goes by it.
 ghost use mathlib.Core.Path.{_≡_};
-ghost use Prim.Native.Nat.{_≤_};
+ghost use mathlib.Core.List.{_++_};
+ghost use Prim.Native.Nat.{_*_, _≤_};
+ghost use lib.Dec.{eqb};
+ghost use lib.ListN.{length, take, drop};
 ghost use Rattle.ciphers.specs.declared.Cipher.the-variants.{N64T192, N128T256};
-ghost use Rattle.prepared.specs.Prepared.{sharesOf, shareOf, preparedBy, prepareOf, refusedWith, wordsIn, joined, keyIn, admitted};
+ghost use Rattle.modes.specs.Blocks.{same};
+ghost use Rattle.prepared.specs.Prepared.{sharesOf, shareOf, recordOf, preparedBy, prepareOf, refusedWith, wordsIn, joined, keyIn, admitted};
 use blocks::differences;
 use blocks::front;
 use ciphers::Cipher;
@@ -24,44 +28,44 @@ pub struct Preparation {
 
 // ---- preparing
 
-// The share of 64-192: words 1 and 2 xored, word 2 one step on from row to row.
-fn share_64_192(cells: [u8; 48]) -> [u8; 784]
-    ensures { λ r. ⌜ r ≡ sharesOf N64T192 cells ⌝ }
+// The first n rows of the share of 64-192, laid in a room: words 1 and 2 xored, word 2 one step on from row to row.
+fn lay_64_192(share: &mut [u8; 784], cells: [u8; 48], n: usize)
+    requires { ⌜ (n ≤ 49) × (length (now share) ≡ 784) ⌝ }
+    ensures { λ _. ⌜ now (share .exit) ≡ take (16 * n) (sharesOf N64T192 cells) ++ drop (16 * n) (now (share .entry)) ⌝ }
 {
-    let mut share = [0u8; 784];
     let mut c = cells;
-    for k in 0..49 {
+    for k in 0..n {
         for j in 0..16 {
             share[16 * k + j] = c[j] ^ c[16 + j];
             c[16 + j] = cells::left_nibble(c[16 + j]);
         }
     }
-    share
 }
 
 // The share of 128-256: word 1, which is never stepped.
-fn share_128_256(cells: [u8; 48]) -> [u8; 784]
-    ensures { λ r. ⌜ r ≡ sharesOf N128T256 cells ⌝ }
+fn lay_128_256(share: &mut [u8; 784], cells: [u8; 48])
+    requires { ⌜ length (now share) ≡ 784 ⌝ }
+    ensures { λ _. ⌜ now (share .exit) ≡ sharesOf N128T256 cells ⌝ }
 {
-    let mut share = [0u8; 784];
     for k in 0..49 {
         for j in 0..16 {
             share[16 * k + j] = cells[j];
         }
     }
-    share
 }
 
 // The share of a key.
 pub fn share_of(c: Cipher, key: [u8; 16]) -> [u8; 784]
     ensures { λ r. ⌜ r ≡ shareOf c key ⌝ }
 {
-    let t = ciphers::load_key(c, key, [0u8; 16]);
+    let mut share = [0u8; 784];
+    let t = ciphers::load_key(c, key);
     let cells = t.cells;
     match c {
-        Cipher::N64T192 => share_64_192(cells),
-        Cipher::N128T256 => share_128_256(cells),
+        Cipher::N64T192 => lay_64_192(&mut share, cells, 49),
+        Cipher::N128T256 => lay_128_256(&mut share, cells),
     }
+    share
 }
 
 fn refused(number: u32) -> Preparation
@@ -136,30 +140,48 @@ fn join(cells: [u8; 32]) -> [u8; 16]
     key
 }
 
-// The key that a share was made of, if it was made of one.
-fn key_in(c: Cipher, share: &[u8; 784]) -> [u8; 16]
-    ensures { λ r. ⌜ r ≡ keyIn c (now (share .entry)) ⌝ }
+// Where a share of 64-192 is not the one that its key gives, or 0. A nibble of word 2 is as it was after fifteen steps: so fifteen rows
+// are made anew, and each of the others is as the one fifteen rows before it.
+fn differ_64_192(share: &[u8; 784]) -> u8
+    ensures { λ r. ⌜ eqb r 0 ≡ same (now (share .entry)) (shareOf N64T192 (keyIn N64T192 (now (share .entry)))) ⌝ }
 {
-    ciphers::bytes_known(share);
+    let t = ciphers::load_key(Cipher::N64T192, join(words_in(share)));
+    let cells = t.cells;
+    let mut again = [0u8; 784];
+    lay_64_192(&mut again, cells, 15);
+    let rows = &share[..];
+    let in_first = differences(&rows[..240], &again[..240]);
+    let in_rest = differences(&rows[240..], &rows[..544]);
+    in_first | in_rest
+}
+
+// Of 128-256: every row is as the one before it.
+fn differ_128_256(share: &[u8; 784]) -> u8
+    ensures { λ r. ⌜ eqb r 0 ≡ same (now (share .entry)) (shareOf N128T256 (keyIn N128T256 (now (share .entry)))) ⌝ }
+{
+    let rows = &share[..];
+    ciphers::bytes_known(rows);
+    differences(&rows[16..], &rows[..768])
+}
+
+fn differ(c: Cipher, share: &[u8; 784]) -> u8
+    ensures { λ r. ⌜ eqb r 0 ≡ same (now (share .entry)) (shareOf c (keyIn c (now (share .entry)))) ⌝ }
+{
     match c {
-        Cipher::N64T192 => join(words_in(share)),
-        Cipher::N128T256 => front(share, 16),
+        Cipher::N64T192 => differ_64_192(share),
+        Cipher::N128T256 => differ_128_256(share),
     }
 }
 
-// Whether a record is admitted under a cipher: it is made anew of the key that it would hold, and compared to its last byte.
-pub fn judge(c: Cipher, r: Prepared) -> bool
-    ensures { λ x. ⌜ x ≡ admitted c r ⌝ }
+// Whether a record is admitted under a cipher; its parts are lent or given, so that the share is not copied.
+pub fn judge(c: Cipher, cipher: u32, share: &[u8; 784], tweak: [u8; 16]) -> bool
+    ensures { λ x. ⌜ x ≡ admitted c (recordOf cipher (now (share .entry)) tweak) ⌝ }
 {
-    let share = r.share;
-    let tweak = r.tweak;
-    let cipher = r.cipher;
     if cipher != ciphers::number_of(c) {
         return false;
     }
-    let again = share_of(c, key_in(c, &share));
+    let in_share = differ(c, share);
     let unmoving = [0u8; 16];
-    let in_share = differences(&share, &again);
     let in_tweak = differences(&tweak, &unmoving);
     (in_share | in_tweak) == 0
 }

@@ -1,14 +1,15 @@
--- The linear part of a round on words that hold complements: what a round adds turns rows 2 and 3 over, and the columns turn them back.
--- Assumes nothing.
+-- The linear part of a round on words that hold complements. Forward, what a round adds turns row 2 over, and after the columns row 0 is
+-- turned back. Back, the columns turn rows 2 and 3 over, and what a round adds turns them back. Assumes nothing.
 use mathlib.Core.Path.{_≡_, ap, sym, _∙_}
 use Prim.Native.Nat.{ℕ, _+_}
 use mathlib.Core.List.{List}
 use lib.ListN.{getD}
-use lib.Bits.{bitXor, xor-comm}
-use Rattle.cells.specs.Words.{not8}
+use lib.Bits.{bitXor, xor-comm, xor-zero-r}
+use Rattle.cells.specs.Words.{lane, not8}
+use Rattle.cells.proofs.Lanes.{lane-xor}
 use Rattle.cells.proofs.Xor.{xor-assoc, xor-last}
 use Rattle.rounds.specs.State.{State, cell, four, row, subBy, addTweakey, shiftRows, unshiftRows, mixColumns, unmixColumns}
-use Rattle.rounds.specs.Words.{added, addBelow, linearBy, unlinear}
+use Rattle.rounds.specs.Words.{lanes, shown, added, addBelow, linearBy, unlinear}
 
 -- ---- complements
 
@@ -21,18 +22,28 @@ xor-not a b = sym (xor-assoc a b 255)
 both-not : (a b : ℕ) → bitXor (not8 a) (not8 b) ≡ bitXor a b
 both-not a b = xor-not (not8 a) b ∙ ap not8 (sym (not-xor a b)) ∙ xor-last (bitXor a b) 255
 
--- the top two rows turned over
+outer-not : (a b c : ℕ) → bitXor (bitXor a b) c ≡ bitXor (bitXor (not8 a) b) (not8 c)
+outer-not a b c = sym (both-not (bitXor a b) c) ∙ ap (λ (x : ℕ). bitXor x (not8 c)) (not-xor a b)
+
+-- the top row turned over, the top two, all rows but row 2
+abbrev pub topNot : State → State
+topNot s = four (row (λ j. not8 (cell s 0 j))) (row (cell s 1)) (row (cell s 2)) (row (cell s 3))
+
 abbrev upperNot : State → State
 upperNot s = four (row (λ j. not8 (cell s 0 j))) (row (λ j. not8 (cell s 1 j))) (row (cell s 2)) (row (cell s 3))
 
-mix-not : (s : State) → subBy not8 (mixColumns s) ≡ mixColumns (upperNot s)
+abbrev othersNot : State → State
+othersNot s = four (row (λ j. not8 (cell s 0 j))) (row (λ j. not8 (cell s 1 j))) (row (cell s 2)) (row (λ j. not8 (cell s 3 j)))
+
+-- row 0 alone takes two of them, a and d, and there the complements cancel
+mix-not : (s : State) → subBy not8 (topNot (mixColumns s)) ≡ mixColumns (othersNot s)
 mix-not s =
     let a : ℕ → ℕ = cell s 0 in
     let b : ℕ → ℕ = cell s 1 in
     let c : ℕ → ℕ = cell s 2 in
     let d : ℕ → ℕ = cell s 3 in
     λ i. four
-    (row (λ j. (not-xor (bitXor (a j) (c j)) (d j) ∙ ap (λ (x : ℕ). bitXor x (d j)) (not-xor (a j) (c j))) i))
+    (row (λ j. (xor-last (bitXor (bitXor (a j) (c j)) (d j)) 255 ∙ outer-not (a j) (c j) (d j)) i))
     (row (λ j. not8 (a j)))
     (row (λ j. not-xor (b j) (c j) i))
     (row (λ j. not-xor (a j) (c j) i))
@@ -49,20 +60,20 @@ unmix-not s =
     (row (λ j. both-not (q j) (t j) i))
     (row (λ j. both-not (p j) (t j) i))
 
--- ---- what the code adds: t to the top rows, and complements to the others, that of d to the first cell of row 2
+-- ---- what the code adds: t to the top rows, complements to row 2, that of d to its first cell, and e to row 3
 
-abbrev pub addedTo : ℕ → List ℕ → State → State
-addedTo d t s = added (row (λ j. getD t j 0)) (row (λ j. getD t (4 + j) 0)) (four (not8 d) 255 255 255) (four 255 255 255 255) s
+abbrev pub addedTo : ℕ → ℕ → List ℕ → State → State
+addedTo d e t s = added (row (λ j. getD t j 0)) (row (λ j. getD t (4 + j) 0)) (four (not8 d) 255 255 255) (four e e e e) s
 
-added-upper : (d : ℕ) (t : List ℕ) (s : State) → upperNot (addedTo d t s) ≡ addTweakey t (addBelow d (subBy not8 s))
-added-upper d t s =
+added-others : (d : ℕ) (t : List ℕ) (s : State) → othersNot (addedTo d 0 t s) ≡ addTweakey t (addBelow d (subBy not8 s))
+added-others d t s =
     λ i. four
     (row (λ j. not-xor (cell s 0 j) (getD t j 0) i))
     (row (λ j. not-xor (cell s 1 j) (getD t (4 + j) 0) i))
     (four ((xor-not (cell s 2 0) d ∙ not-xor (cell s 2 0) d) i) (not8 (cell s 2 1)) (not8 (cell s 2 2)) (not8 (cell s 2 3)))
-    (row (λ j. not8 (cell s 3 j)))
+    (row (λ j. not8 (xor-zero-r (cell s 3 j) i)))
 
-added-all : (d : ℕ) (t : List ℕ) (s : State) → subBy not8 (addedTo d t s) ≡ addBelow d (addTweakey t (upperNot s))
+added-all : (d : ℕ) (t : List ℕ) (s : State) → subBy not8 (addedTo d 255 t s) ≡ addBelow d (addTweakey t (upperNot s))
 added-all d t s =
     λ i. four
     (row (λ j. not-xor (cell s 0 j) (getD t j 0) i))
@@ -74,11 +85,19 @@ added-all d t s =
     (xor-last (cell s 2 3) 255 i))
     (row (λ j. xor-last (cell s 3 j) 255 i))
 
-pub linear-words : (d : ℕ) (t : List ℕ) (s : State) → subBy not8 (mixColumns (shiftRows (addedTo d t s))) ≡ linearBy d t (subBy not8 s)
-unfolding linearBy
-linear-words d t s = mix-not (shiftRows (addedTo d t s)) ∙ ap (λ (x : State). mixColumns (shiftRows x)) (added-upper d t s)
+-- the word of row 0 turned over is its cells turned over
+pub top-words
+    : (m : List ℕ) → shown (four (bitXor (getD m 0 0) 0xffffffff) (getD m 1 0) (getD m 2 0) (getD m 3 0)) ≡ subBy not8 (topNot (lanes m))
+top-words m =
+    let at : ℕ → ℕ = λ k. getD m k 0 in
+    λ i. subBy not8 (four (row (λ j. lane-xor (at 0) 0xffffffff j i)) (row (lane (at 1))) (row (lane (at 2))) (row (lane (at 3))))
 
-pub unlinear-words : (t : List ℕ) (s : State) → subBy not8 (addedTo 2 t (unshiftRows (unmixColumns s))) ≡ unlinear t (subBy not8 s)
+pub linear-words
+    : (d : ℕ) (t : List ℕ) (s : State) → subBy not8 (topNot (mixColumns (shiftRows (addedTo d 0 t s)))) ≡ linearBy d t (subBy not8 s)
+unfolding linearBy
+linear-words d t s = mix-not (shiftRows (addedTo d 0 t s)) ∙ ap (λ (x : State). mixColumns (shiftRows x)) (added-others d t s)
+
+pub unlinear-words : (t : List ℕ) (s : State) → subBy not8 (addedTo 2 255 t (unshiftRows (unmixColumns s))) ≡ unlinear t (subBy not8 s)
 unfolding unlinear
 unlinear-words t s =
     added-all 2 t (unshiftRows (unmixColumns s)) ∙ ap (λ (x : State). addBelow 2 (addTweakey t (unshiftRows x))) (sym (unmix-not s))

@@ -1,8 +1,8 @@
 // The steps of a round on a state of four rows, each row a word of four cells, forward and back. (A row turned is a word rotated, and a
 // column mixed is four words xored. The cells themselves, `cells::words`, are worked where rounds follow each other, in `runs`: there the
 // compiler works the four rows at once.)
-// A word holds complements of cells (specs/Words.antt). What a round adds to rows 2 and 3 turns these rows over, and mixing the columns turns
-// them back.
+// A word holds complements of cells (specs/Words.antt). Forward, what a round adds turns row 2 over; the columns mixed, it is row 0 that is
+// turned over, and it is turned back. Back, mixing the columns turns rows 2 and 3 over, and what a round adds turns them back.
 pub mod words;
 
 ghost use mathlib.Core.Path.{_≡_};
@@ -73,7 +73,8 @@ fn add_rows(a: u32, b: u32, c: u32, d: u32, s: [u32; 4]) -> [u32; 4]
 pub fn linear_with(t: &[u8; 8], s: [u32; 4]) -> [u32; 4]
     ensures { λ r. ⌜ shown r ≡ linear (now (t .entry)) (shown s) ⌝ }
 {
-    mix_columns(shift_rows(add_rows(upper_half(t), lower_half(t), 0xfffffffd, 0xffffffff, s)))
+    let m = mix_columns(shift_rows(add_rows(upper_half(t), lower_half(t), 0xfffffffd, 0, s)));
+    [m[0] ^ 0xffffffff, m[1], m[2], m[3]]
 }
 
 // Back: columns and rows, then key and constants.
@@ -93,11 +94,12 @@ pub fn unlinear_with(t: &[u8; 8], s: [u32; 4]) -> [u32; 4]
 pub fn linear_with_both(t: &[u8; 8], u: &[u8; 8], s: [u32; 4]) -> [u32; 4]
     ensures { λ r. ⌜ (LowCells Nibble (now (u .entry)) → shown r ≡ linearBy 0x22 (pairRow (now (t .entry)) (now (u .entry))) (shown s)) ⌝ }
 {
-    mix_columns(shift_rows(add_rows(
+    let m = mix_columns(shift_rows(add_rows(
         upper_half(t) ^ (upper_half(u) << 4),
         lower_half(t) ^ (lower_half(u) << 4),
         0xffffffdd,
-        0xffffffff,
+        0,
         s,
-    )))
+    )));
+    [m[0] ^ 0xffffffff, m[1], m[2], m[3]]
 }

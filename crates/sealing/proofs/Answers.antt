@@ -2,14 +2,13 @@
 use mathlib.Core.Path.{_≡_, sym, ap, _∙_}
 use mathlib.Core.Logic.{_≢_}
 use mathlib.Core.Bool.{Bool, true, false, cond}
-use mathlib.Core.List.{List, [], _++_}
+use mathlib.Core.List.{List, _++_}
 use Prim.Native.Nat.{ℕ, _+_, _-_}
 use native.Mathlib.Omega.{arith}
 use lib.Dec.{ltb}
 use lib.ListN.{length, drop, replicate}
 use lib.Seq.{drop-at}
 use borrow.Author.Tests.{ltb-false, ne-eqb}
-use Rattle.ciphers.specs.declared.Cipher.{Cipher}
 use Rattle.ciphers.specs.Ciphers.{blockOf}
 use Rattle.prepared.specs.declared.Prepared.{Prepared}
 use Rattle.prepared.specs.Prepared.{keyIn, keyOf, admitted}
@@ -48,11 +47,6 @@ module _ (s : Scheme) (key nonce header input room : List ℕ) (h : length key �
   pub open-no-key : refused 2 room ≡ openUnder s key nonce header input room
   unfolding openUnder checkOf
   open-no-key = simp (ne-eqb (length key) (s .key) h)
-
--- an admitted record stands for the key that its share was made of
-pub key-if : (c : Cipher) (r : Prepared) → admitted c r ≡ true → keyOf c r ≡ keyIn c (r .share)
-unfolding keyOf
-key-if c r e = ap (λ (t : Bool). cond t (keyIn c (r .share)) []) e
 
 -- one that is not admitted stands for none, and is refused as a key of another length is
 pub no-record : (s : Scheme) (r : Prepared) → Fits s → admitted (s .cipher) r ≡ false → length (keyOf (s .cipher) r) ≢ s .key

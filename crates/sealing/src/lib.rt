@@ -15,7 +15,7 @@ use walks::counting;
 use walks::records;
 ghost use mathlib.Core.Path.{_≡_};
 ghost use Prim.Native.Nat.{_-_};
-ghost use Rattle.prepared.specs.Prepared.{keyIn, keyOf, Made};
+ghost use Rattle.prepared.specs.Prepared.{keyIn, keyOf, recordOf, Made};
 ghost use Rattle.sealing.specs.Schemes.{Fits};
 ghost use Rattle.sealing.specs.Budget.{budgetUnder, budgetOf};
 ghost use Rattle.sealing.specs.Calls.{told, sealUnder, openUnder, sealOf, openOf, sealWith, openWith};
@@ -93,19 +93,20 @@ fn seal_of_key(
 
 fn seal_with(
     s: Scheme,
-    key: Prepared,
+    own: u32,
+    share: &[u8; 784],
+    moving: [u8; 16],
     nonce: &[u8],
     header: &[u8],
     body: &[u8],
     room: &mut [u8],
 ) -> Answer
     requires { ⌜ Fits s ⌝ }
-    ensures { λ r. ⌜ told r (now (room .exit)) ≡ sealUnder s (keyOf (s .cipher) key) (now (nonce .entry)) (now (header .entry)) (now (body .entry)) (now (room .entry)) ⌝ }
+    ensures { λ r. ⌜ told r (now (room .exit)) ≡ sealUnder s (keyOf (s .cipher) (recordOf own (now (share .entry)) moving)) (now (nonce .entry)) (now (header .entry)) (now (body .entry)) (now (room .entry)) ⌝ }
 {
     let c = s.cipher;
-    if judge(c, key) {
-        let share = key.share;
-        return seal_under(s, &share, nonce, header, body, room);
+    if judge(c, own, share, moving) {
+        return seal_under(s, share, nonce, header, body, room);
     }
     Answer {
         number: 2,
@@ -114,9 +115,33 @@ fn seal_with(
     }
 }
 
-// Seals a body with a prepared key: the sealed run, a block longer, at the front of the room. Refused, in this order, with 1 (scheme), 2 (no
-// key of the scheme's cipher gives this record), 7 (nonce length), 3 (header too long), 8 (body too long) or 5 (room too short), the room
-// unchanged.
+// Seals a body with a prepared key, whose share is lent: the sealed run, a block longer, at the front of the room. Refused, in this order, with
+// 1 (scheme), 2 (no key of the scheme's cipher gives this record), 7 (nonce length), 3 (header too long), 8 (body too long) or 5 (room too
+// short), the room unchanged.
+pub fn seal_lent(
+    scheme: u32,
+    own: u32,
+    share: &[u8; 784],
+    moving: [u8; 16],
+    nonce: &[u8],
+    header: &[u8],
+    body: &[u8],
+    room: &mut [u8],
+) -> Answer
+    ensures { λ r. ⌜ told r (now (room .exit)) ≡ sealWith scheme (recordOf own (now (share .entry)) moving) (now (nonce .entry)) (now (header .entry)) (now (body .entry)) (now (room .entry)) ⌝ }
+{
+    let named = scheme_of(scheme);
+    match named {
+        Named::Known(s) => { seal_with(s, own, share, moving, nonce, header, body, room) }
+        Named::Unknown => Answer {
+            number: 1,
+            length: 0,
+            rounds: 0,
+        },
+    }
+}
+
+// The same, the record given whole.
 pub fn seal(
     scheme: u32,
     key: Prepared,
@@ -127,15 +152,18 @@ pub fn seal(
 ) -> Answer
     ensures { λ r. ⌜ told r (now (room .exit)) ≡ sealWith scheme key (now (nonce .entry)) (now (header .entry)) (now (body .entry)) (now (room .entry)) ⌝ }
 {
-    let named = scheme_of(scheme);
-    match named {
-        Named::Known(s) => seal_with(s, key, nonce, header, body, room),
-        Named::Unknown => Answer {
-            number: 1,
-            length: 0,
-            rounds: 0,
-        },
-    }
+    let share = key.share;
+    let moving = key.tweak;
+    seal_lent(
+        scheme,
+        key.cipher,
+        &share,
+        moving,
+        nonce,
+        header,
+        body,
+        room,
+    )
 }
 
 // The same with a key, for callers that have no prepared one: 2 says that it is not of the scheme's length.
@@ -235,19 +263,20 @@ fn open_of_key(
 
 fn open_with(
     s: Scheme,
-    key: Prepared,
+    own: u32,
+    share: &[u8; 784],
+    moving: [u8; 16],
     nonce: &[u8],
     header: &[u8],
     sealed: &[u8],
     room: &mut [u8],
 ) -> Answer
     requires { ⌜ Fits s ⌝ }
-    ensures { λ r. ⌜ told r (now (room .exit)) ≡ openUnder s (keyOf (s .cipher) key) (now (nonce .entry)) (now (header .entry)) (now (sealed .entry)) (now (room .entry)) ⌝ }
+    ensures { λ r. ⌜ told r (now (room .exit)) ≡ openUnder s (keyOf (s .cipher) (recordOf own (now (share .entry)) moving)) (now (nonce .entry)) (now (header .entry)) (now (sealed .entry)) (now (room .entry)) ⌝ }
 {
     let c = s.cipher;
-    if judge(c, key) {
-        let share = key.share;
-        return open_under(s, &share, nonce, header, sealed, room);
+    if judge(c, own, share, moving) {
+        return open_under(s, share, nonce, header, sealed, room);
     }
     Answer {
         number: 2,
@@ -256,8 +285,32 @@ fn open_with(
     }
 }
 
-// Opens a sealed run with a prepared key: its body, a block shorter, at the front of the room. Refused, in this order, with 1, 2, 7, 3, 8, 4
-// (run shorter than a block) or 5, the room unchanged, or with 6 (not authentic), zeros where the body would have been.
+// Opens a sealed run with a prepared key, whose share is lent: its body, a block shorter, at the front of the room. Refused, in this order, with
+// 1, 2, 7, 3, 8, 4 (run shorter than a block) or 5, the room unchanged, or with 6 (not authentic), zeros where the body would have been.
+pub fn open_lent(
+    scheme: u32,
+    own: u32,
+    share: &[u8; 784],
+    moving: [u8; 16],
+    nonce: &[u8],
+    header: &[u8],
+    sealed: &[u8],
+    room: &mut [u8],
+) -> Answer
+    ensures { λ r. ⌜ told r (now (room .exit)) ≡ openWith scheme (recordOf own (now (share .entry)) moving) (now (nonce .entry)) (now (header .entry)) (now (sealed .entry)) (now (room .entry)) ⌝ }
+{
+    let named = scheme_of(scheme);
+    match named {
+        Named::Known(s) => { open_with(s, own, share, moving, nonce, header, sealed, room) }
+        Named::Unknown => Answer {
+            number: 1,
+            length: 0,
+            rounds: 0,
+        },
+    }
+}
+
+// The same, the record given whole.
 pub fn open(
     scheme: u32,
     key: Prepared,
@@ -268,15 +321,18 @@ pub fn open(
 ) -> Answer
     ensures { λ r. ⌜ told r (now (room .exit)) ≡ openWith scheme key (now (nonce .entry)) (now (header .entry)) (now (sealed .entry)) (now (room .entry)) ⌝ }
 {
-    let named = scheme_of(scheme);
-    match named {
-        Named::Known(s) => open_with(s, key, nonce, header, sealed, room),
-        Named::Unknown => Answer {
-            number: 1,
-            length: 0,
-            rounds: 0,
-        },
-    }
+    let share = key.share;
+    let moving = key.tweak;
+    open_lent(
+        scheme,
+        key.cipher,
+        &share,
+        moving,
+        nonce,
+        header,
+        sealed,
+        room,
+    )
 }
 
 // The same with a key, for callers that have no prepared one: 2 says that it is not of the scheme's length.

@@ -6,6 +6,7 @@ use mathlib.Core.List.{List, _++_}
 use Prim.Native.Nat.{ℕ, _+_, _-_, _≤_}
 use native.Mathlib.Omega.{arith}
 use lib.ListN.{length, take, drop, length-drop}
+use Rattle.constants.specs.Constants.{Room}
 use Rattle.ciphers.specs.declared.Cipher.{Cipher}
 use Rattle.prepared.specs.Prepared.{Made}
 use Rattle.kept.specs.declared.Kept.{Kept}
@@ -35,8 +36,8 @@ pub ready-at
 ready-at w at n h l = record { fills = w .fills; number = omega arith; lent = l }
 
 -- a room in which nothing is kept
-pub lent-none : (c : Cipher) (share : List ℕ) {kept : Kept} {keys : List (List ℕ)} → Made c share → length keys ≡ 97 → kept ≡ nothing → Lent c share kept keys
-lent-none c share {keys = keys} m l e = record { made = m; keeps = subst⁻¹ (λ (k : Kept). Keeps c share k keys) e (none-kept c share keys l) }
+pub lent-none : (c : Cipher) (share : List ℕ) {kept : Kept} {keys : List (List ℕ)} → Made c share → Room keys → kept ≡ nothing → Lent c share kept keys
+lent-none c share {keys = keys} m r e = record { made = m; keeps = subst⁻¹ (λ (k : Kept). Keeps c share k keys) e (none-kept c share keys r) }
 
 -- ---- `&l[at..]` or `&mut l[at..]`; and the whole of l, when that came back as ys
 

@@ -7,6 +7,7 @@ use steps::State;
 ghost use mathlib.Core.Path.{_≡_};
 ghost use Prim.Native.Nat.{_≤_};
 ghost use lib.ListN.{length};
+ghost use Rattle.constants.specs.Constants.{Room};
 ghost use Rattle.ciphers.specs.Ciphers.{blockOf};
 ghost use Rattle.prepared.specs.Prepared.{keyIn, Made};
 ghost use Rattle.kept.specs.Kept.{Lent};
@@ -57,7 +58,7 @@ fn walk(
     empty: bool,
     header: &[u8],
 ) -> State
-    requires { ⌜ Walkable c k (now nonce) (now header) × Made c (now share) × (length (now keys) ≡ 97) ⌝ }
+    requires { ⌜ Walkable c k (now nonce) (now header) × Made c (now share) × Room (now keys) ⌝ }
     ensures { λ r. ⌜ HeadWalked c k (keyIn c (now (share .entry))) (now (nonce .entry)) empty (now (header .entry)) r × Lent c (now (share .entry)) (r .kept) (now (keys .exit)) ⌝ }
 {
     let n = ciphers::block_of(c);
@@ -80,7 +81,7 @@ pub fn head(
     empty: bool,
     header: &[u8],
 ) -> State
-    requires { ⌜ Walkable c k (now nonce) (now header) × Made c (now share) × (length (now keys) ≡ 97) ⌝ }
+    requires { ⌜ Walkable c k (now nonce) (now header) × Made c (now share) × Room (now keys) ⌝ }
     ensures { λ r. ⌜ Headed c k (keyIn c (now (share .entry))) (now (nonce .entry)) empty (now (header .entry)) r × Lent c (now (share .entry)) (r .kept) (now (keys .exit)) ⌝ }
 {
     if empty {

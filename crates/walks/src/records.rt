@@ -1,4 +1,5 @@
-// A record: its header, and then its body or its run. It holds the room for round keys, and lends it from block to block.
+// A record: its header, and then its body or its run. It holds the room for round keys, which has the constants first, and lends it from
+// block to block.
 use crate::headers::head;
 use crate::opening;
 use crate::sealing;
@@ -25,7 +26,7 @@ pub fn seal(
     requires { ⌜ Walkable c k (now nonce) (now header) × Walkable c k (now nonce) (now body) × (length (now body) + blockOf c ≤ length (now room)) × Made c (now share) ⌝ }
     ensures { λ _. ⌜ RecordSealed c k (keyIn c (now (share .entry))) (now (nonce .entry)) (now (header .entry)) (now (body .entry)) (now (room .entry)) (now (room .exit)) ⌝ }
 {
-    let mut keys = [[0u8; 8]; 97];
+    let mut keys = constants::room();
     if body.len() == 0 {
         let s = head(c, k, share, nonce, &mut keys, true, header);
         let n = ciphers::block_of(c);
@@ -50,7 +51,7 @@ pub fn open(
     ensures { λ r. ⌜ RecordOpened c k (keyIn c (now (share .entry))) (now (nonce .entry)) (now (header .entry)) (now (run .entry)) (now (room .entry)) r (now (room .exit)) ⌝ }
 {
     let n = ciphers::block_of(c);
-    let mut keys = [[0u8; 8]; 97];
+    let mut keys = constants::room();
     if run.len() == n {
         let t = head(c, k, share, nonce, &mut keys, true, header);
         let block = steps::alone(c, k, share, nonce, t);

@@ -19,7 +19,14 @@ front-requires-2 : tie.Need-front-requires-2
 front-requires-2 c κs = search needs
 
 returns-2 : tie.Need-returns-2
-returns-2 c = rw (c .front2 .ensures) (load-full _ _ _ (omega arith))
+returns-2 c = rw (c .front2 .ensures, c .before .if2 .taken) (load-full _ _ _ (omega arith))
+
+front-requires-3 : tie.Need-front-requires-3
+front-requires-3 c κs = search needs
+
+returns-3 : tie.Need-returns-3
+returns-3 c = rw (c .front3 .ensures) (load-full _ _ _ (omega arith))
 
 pub load-spec : {M : Type 1} → statement M
-load-spec = tie.close (tie.spec front-requires array-write-b returns front-requires-2 returns-2)
+load-spec =
+    tie.close (tie.spec front-requires array-write-b returns front-requires-2 returns-2 front-requires-3 returns-3)

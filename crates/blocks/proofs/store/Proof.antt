@@ -1,45 +1,28 @@
--- `blocks::store` meets its contract: its loop lays the block over the part's front.
--- Assumes nothing.
-use mathlib.Core.Path.{_≡_, refl}
-use Prim.Native.Nat.{_-_, _≤_}
-use native.Mathlib.Omega.{arith}
-use Rattle.blocks.proofs.Over.{Laid, laid-none, laid-more}
+-- `blocks::store` meets its contract: either way it puts k bytes. Assumes nothing.
+use borrow.Author.Needs.{needs}
 use Rattle.blocks.proofs.store.Statement.{statement}
 use Rattle.blocks.proofs.store.Tie as tie
 
-abbrev Inv-loop : tie.InvT-loop
-Inv-loop part₀ n block i₀ part i = (i ≤ n) × Laid block part₀ i part
+put-requires : tie.Need-put-requires
+put-requires c κs = search needs
 
-abbrev μ-loop : tie.MeasureT-loop
-μ-loop part₀ n block i₀ part i = n - i
+same-length : tie.Need-same-length
+same-length c = search needs
 
-loop-holds : tie.Need-loop-holds Inv-loop μ-loop
-loop-holds c = (omega arith, laid-none _ _)
-
-array-read-rest : tie.Need-array-read-rest Inv-loop μ-loop
-array-read-rest c = omega arith
-
-slice-write-rest : tie.Need-slice-write-rest Inv-loop μ-loop
-slice-write-rest c = omega arith
-
-add-i : tie.Need-add-i Inv-loop μ-loop
-add-i c = omega arith
-
-loop-less : tie.Need-loop-less Inv-loop μ-loop
-loop-less c = omega arith
-
-loop-again : tie.Need-loop-again Inv-loop μ-loop
-loop-again c = (omega arith, let g = c .before .before .good in laid-more (c .before .loop .inv .1) refl (omega arith) (omega arith))
-
-same-length : tie.Need-same-length Inv-loop μ-loop
-same-length c = c .before .loop .inv .1 .long
-
-returns : tie.Need-returns Inv-loop μ-loop
+returns : tie.Need-returns
 returns c =
-    let n : c .before .loop .i ≡ c .before .before .args .k = omega arith in
-    rw (← n) (c .before .loop .inv .1 .said)
+    let p = c .before .before in
+    rw (p .before .before .if1 .taken) (p .put .ensures)
+
+put-requires-2 : tie.Need-put-requires-2
+put-requires-2 c κs = search needs
+
+same-length-2 : tie.Need-same-length-2
+same-length-2 c = search needs
+
+returns-2 : tie.Need-returns-2
+returns-2 c = search needs
 
 pub store-spec : {M : Type 1} → statement M
 store-spec =
-    tie.close
-    (tie.spec Inv-loop μ-loop loop-holds array-read-rest slice-write-rest add-i loop-less loop-again same-length returns)
+    tie.close (tie.spec put-requires same-length returns put-requires-2 same-length-2 returns-2)

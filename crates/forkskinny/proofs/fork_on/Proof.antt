@@ -10,7 +10,7 @@ fork-reach-requires : tie.Need-fork-reach-requires
 fork-reach-requires c κs = search needs
 
 turn-to-requires : tie.Need-turn-to-requires
-turn-to-requires c κs = let l = c .before in (l .fork-reach .ensures .1, l .before .pre .made, l .before .pre .keeps)
+turn-to-requires c κs = let l = c .before in (l .fork-reach .ensures .1, l .fork-reach .ensures .2, l .before .pre .made, l .before .pre .keeps)
 
 fork-laid-requires : tie.Need-fork-laid-requires
 fork-laid-requires c κs = search needs

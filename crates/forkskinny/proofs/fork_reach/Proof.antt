@@ -1,8 +1,9 @@
 -- `forkskinny::fork_reach` meets its contract. Assumes nothing.
 use mathlib.Core.Path.{_∙_, ap}
 use native.Mathlib.Omega.{arith}
+use Rattle.ciphers.proofs.Laws.{init-some}
 use Rattle.forkskinny.specs.Reach.{takesFar, reachOf}
-use Rattle.forkskinny.proofs.Places.{reach-fit}
+use Rattle.forkskinny.proofs.Places.{reach-fit, reach-init}
 use borrow.Author.Needs.{needs}
 use Rattle.forkskinny.proofs.fork_reach.Statement.{statement}
 use Rattle.forkskinny.proofs.fork_reach.Tie as tie
@@ -26,6 +27,7 @@ returns c =
     let f = c .before .before .is-wanted2 .ensures in
     let far = c .before .takes-far in (
       c .reach-of .ensures ∙ ap (reachOf (a .c)) (far .ensures ∙ (λ i. takesFar (e i) 0 (f i) 1)),
+      omega (arith, init-some (a .c), reach-init (a .c) (far .result), c .reach-of .ensures),
       omega (arith, reach-fit (a .c) (far .result), c .reach-of .ensures),
     )
 

@@ -10,7 +10,7 @@ unfork-reach-requires : tie.Need-unfork-reach-requires
 unfork-reach-requires c κs = search needs
 
 turn-to-requires : tie.Need-turn-to-requires
-turn-to-requires c κs = let l = c .before in (l .unfork-reach .ensures .1, l .before .pre .made, l .before .pre .keeps)
+turn-to-requires c κs = let l = c .before in (l .unfork-reach .ensures .1, l .unfork-reach .ensures .2, l .before .pre .made, l .before .pre .keeps)
 
 unfork-laid-requires : tie.Need-unfork-laid-requires
 unfork-laid-requires c κs = search needs

@@ -1,8 +1,9 @@
 -- `forkskinny::unfork_reach` meets its contract. Assumes nothing.
 use mathlib.Core.Path.{_∙_, ap}
 use native.Mathlib.Omega.{arith}
+use Rattle.ciphers.proofs.Laws.{init-some}
 use Rattle.forkskinny.specs.Reach.{takesFar, reachOf}
-use Rattle.forkskinny.proofs.Places.{reach-fit}
+use Rattle.forkskinny.proofs.Places.{reach-fit, reach-init}
 use mathlib.Core.Bool.{true}
 use borrow.Author.Needs.{needs}
 use Rattle.forkskinny.proofs.unfork_reach.Statement.{statement}
@@ -27,6 +28,7 @@ returns c =
     let f = c .before .before .other-of .ensures in
     let far = c .before .takes-far in (
       c .reach-of .ensures ∙ ap (reachOf (a .c)) (far .ensures ∙ (λ i. takesFar true (a .from) (e i) (f i))),
+      omega (arith, init-some (a .c), reach-init (a .c) (far .result), c .reach-of .ensures),
       omega (arith, reach-fit (a .c) (far .result), c .reach-of .ensures),
     )
 

@@ -11,18 +11,15 @@ slice-aggregate-bytes-known c = search needs
 bytes-known-requires : tie.Need-bytes-known-requires
 bytes-known-requires c κs = search needs
 
-load-tweak-requires : tie.Need-load-tweak-requires
-load-tweak-requires c κs = search needs
-
 lay-keys-requires : tie.Need-lay-keys-requires
 lay-keys-requires c κs = search needs
 
 returns : tie.Need-returns
 returns c =
-    let b = c .before .before .before .before .before in
+    let b = c .before .before .before .before in
     let a = b .args in
-    laid-anew (a .c) (a .share .now) (a .t4) (a .m) (b .pre .0) (b .pre .1) (c .before .before .before .bytes-known .ensures) (omega arith) (c .lay-keys .ensures .0)
-    (c .before .load-tweak .ensures) (c .lay-keys .ensures .1)
+    laid-anew (a .c) (a .share .now) (a .t4) (a .m) (b .pre .0) (b .pre .1) (b .pre .2) (c .before .before .bytes-known .ensures) (omega arith)
+    (c .lay-keys .ensures .0) (c .lay-keys .ensures .1)
 
 pub lay-spec : {M : Type 1} → statement M
 lay-spec =
@@ -30,6 +27,5 @@ lay-spec =
     (tie.spec
     slice-aggregate-bytes-known
     bytes-known-requires
-    load-tweak-requires
     lay-keys-requires
     returns)

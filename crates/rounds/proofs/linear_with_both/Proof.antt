@@ -3,9 +3,9 @@ use mathlib.Core.Path.{ap, _∙_}
 use Prim.Native.Nat.{ℕ, _+_}
 use lib.ListN.{getD}
 use Rattle.cells.specs.Words.{lane, not8}
-use Rattle.rounds.specs.State.{row, subBy, shiftRows, mixColumns}
+use Rattle.rounds.specs.State.{State, row, subBy, shiftRows, mixColumns}
 use Rattle.rounds.specs.Words.{lanes, added, pairRow}
-use Rattle.rounds.proofs.Linear.{linear-words}
+use Rattle.rounds.proofs.Linear.{topNot, top-words, linear-words}
 use Rattle.rounds.proofs.Rows.{pair-row}
 use borrow.Author.Needs.{needs}
 use Rattle.rounds.proofs.linear_with_both.Statement.{statement}
@@ -32,6 +32,18 @@ shift-rows-requires c κs = search needs
 mix-columns-requires : tie.Need-mix-columns-requires
 mix-columns-requires c κs = search needs
 
+array-read-t8 : tie.Need-array-read-t8
+array-read-t8 c = search needs
+
+array-read-t14 : tie.Need-array-read-t14
+array-read-t14 c = search needs
+
+array-read-t13 : tie.Need-array-read-t13
+array-read-t13 c = search needs
+
+array-read-t12 : tie.Need-array-read-t12
+array-read-t12 c = search needs
+
 returns : tie.Need-returns
 returns c low =
     let c₃ = c .before .before .before in
@@ -45,10 +57,11 @@ returns c low =
     let lower =
     pair-row (c₂ .lower-half .result) (c₃ .lower-half2 .result) (λ j. t (4 + j)) (λ j. u (4 + j)) (search needs)
     (c₂ .lower-half .ensures) (c₃ .lower-half2 .ensures) (λ j. low (4 + j)) in
-    ap (subBy not8) (c .mix-columns .ensures
+    top-words (c .mix-columns .result)
+    ∙ ap (λ (x : State). subBy not8 (topNot x)) (c .mix-columns .ensures
     ∙ ap mixColumns (c .before .shift-rows .ensures
     ∙ ap shiftRows (c .before .before .add-rows .ensures
-    ∙ λ i. added (upper i) (lower i) (row (lane 0xffffffdd)) (row (lane 0xffffffff)) (lanes (a .s)))))
+    ∙ λ i. added (upper i) (lower i) (row (lane 0xffffffdd)) (row (lane 0)) (lanes (a .s)))))
     ∙ linear-words 34 (pairRow (a .t .now) (a .u .now)) (lanes (a .s))
 
 pub linear-with-both-spec : {M : Type 1} → statement M
@@ -62,4 +75,8 @@ linear-with-both-spec =
     add-rows-requires
     shift-rows-requires
     mix-columns-requires
+    array-read-t8
+    array-read-t14
+    array-read-t13
+    array-read-t12
     returns)

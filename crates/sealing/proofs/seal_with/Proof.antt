@@ -2,10 +2,10 @@
 use mathlib.Core.Path.{ap, sym, _∙_}
 use mathlib.Core.List.{List}
 use Prim.Native.Nat.{ℕ}
-use Rattle.prepared.proofs.Admitted.{made-if}
-use Rattle.prepared.specs.Prepared.{keyOf}
+use Rattle.prepared.proofs.Admitted.{key-if, made-if}
+use Rattle.prepared.specs.Prepared.{keyOf, recordOf}
 use Rattle.sealing.specs.Calls.{sealUnder}
-use Rattle.sealing.proofs.Answers.{key-if, no-record, seal-no-key}
+use Rattle.sealing.proofs.Answers.{no-record, seal-no-key}
 use borrow.Author.Needs.{needs}
 use Rattle.sealing.proofs.seal_with.Statement.{statement}
 use Rattle.sealing.proofs.seal_with.Tie as tie
@@ -15,26 +15,28 @@ judge-requires c κs = search needs
 
 seal-under-requires : tie.Need-seal-under-requires
 seal-under-requires c κs =
-    let start = c .before .before .before .before .before .before .before .before .before in
-    let a = start .args in (start .pre, made-if (a .s .cipher) (a .key) (sym (c .before .before .before .before .judge .ensures) ∙ c .before .before .before .if1 .taken))
+    let judged = c .before .before in
+    let start = judged .before .before .before .before .before in
+    let a = start .args in
+    (start .pre, made-if (a .s .cipher) (recordOf (a .own) (a .share .now) (a .moving)) (sym (judged .judge .ensures) ∙ c .before .if1 .taken))
 
 same-length : tie.Need-same-length
 same-length c = search needs
 
 returns : tie.Need-returns
 returns c =
-    let after = c .before .before in
-    let start = c .before .before .before .before .before .before .before .before .before .before .before .before in
-    let a = start .args in
-    after .seal-under .ensures
-    ∙ ap (λ (x : List ℕ). sealUnder (a .s) x (a .nonce .now) (a .header .now) (a .body .now) (a .room .now)) (sym (key-if (a .s .cipher) (a .key) (sym (c .before .before .before .before .before .before .before .judge .ensures) ∙ c .before .before .before .before .before .before .if1 .taken)))
+    let judged = c .before .before .before .before .before in
+    let a = judged .before .before .before .before .before .args in
+    c .before .before .seal-under .ensures
+    ∙ ap (λ (x : List ℕ). sealUnder (a .s) x (a .nonce .now) (a .header .now) (a .body .now) (a .room .now))
+    (sym (key-if (a .s .cipher) (recordOf (a .own) (a .share .now) (a .moving)) (sym (judged .judge .ensures) ∙ c .before .before .before .before .if1 .taken)))
 
 returns-2 : tie.Need-returns-2
 returns-2 c =
     let start = c .before .before .before .before .before .before in
     let a = start .args in
-    seal-no-key (a .s) (keyOf (a .s .cipher) (a .key)) (a .nonce .now) (a .header .now) (a .body .now) (a .room .now)
-    (no-record (a .s) (a .key) (start .pre) (sym (c .before .judge .ensures) ∙ c .if1 .left))
+    seal-no-key (a .s) (keyOf (a .s .cipher) (recordOf (a .own) (a .share .now) (a .moving))) (a .nonce .now) (a .header .now) (a .body .now) (a .room .now)
+    (no-record (a .s) (recordOf (a .own) (a .share .now) (a .moving)) (start .pre) (sym (c .before .judge .ensures) ∙ c .if1 .left))
 
 pub seal-with-spec : {M : Type 1} → statement M
 seal-with-spec =

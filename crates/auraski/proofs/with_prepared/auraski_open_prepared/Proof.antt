@@ -3,24 +3,37 @@ use mathlib.Core.Path.{ap, _∙_}
 use Rattle.prepared.specs.declared.Prepared.{Prepared}
 use Rattle.sealing.specs.Calls.{openWith}
 use Rattle.auraski.specs.Entries.{answerIn}
+use Rattle.auraski.proofs.Rooms.{parts-in}
 use borrow.Author.Needs.{needs}
 use Rattle.auraski.proofs.with_prepared.auraski_open_prepared.Statement.{statement}
 use Rattle.auraski.proofs.with_prepared.auraski_open_prepared.Tie as tie
 
-record-in-requires : tie.Need-record-in-requires
-record-in-requires c κs = search needs
+share-in-requires : tie.Need-share-in-requires
+share-in-requires c κs = search needs
 
-open-requires : tie.Need-open-requires
-open-requires c κs = search needs
+cipher-in-requires : tie.Need-cipher-in-requires
+cipher-in-requires c κs = search needs
+
+moving-in-requires : tie.Need-moving-in-requires
+moving-in-requires c κs = search needs
+
+open-lent-requires : tie.Need-open-lent-requires
+open-lent-requires c κs = search needs
 
 same-length : tie.Need-same-length
 same-length c = search needs
 
 returns : tie.Need-returns
 returns c =
-    let a = c .before .before .before .before .before .before .before .before .before .before .args in
-    ap answerIn (c .before .before .«open» .ensures ∙ ap (λ (r : Prepared). openWith (a .scheme) r (a .nonce .now) (a .header .now) (a .sealed .now) (a .room .now)) (c .before .before .before .before .record-in .ensures))
+    let called = c .before .before in
+    let moving = called .before .before in
+    let cipher = moving .before .before .before in
+    let share = cipher .before .before in
+    let a = c .before .before .before .before .before .before .before .before .before .before .before .before .before .before .before .args in
+    ap answerIn (called .open-lent .ensures
+    ∙ ap (λ (r : Prepared). openWith (a .scheme) r (a .nonce .now) (a .header .now) (a .sealed .now) (a .room .now))
+    (parts-in (a .key .now) (cipher .cipher-in .ensures) (share .share-in .ensures) (moving .moving-in .ensures)))
 
 pub auraski-open-prepared-spec : {M : Type 1} → statement M
 auraski-open-prepared-spec =
-    tie.close (tie.spec record-in-requires open-requires same-length returns)
+    tie.close (tie.spec share-in-requires cipher-in-requires moving-in-requires open-lent-requires same-length returns)

@@ -3,20 +3,34 @@ use mathlib.Core.Path.{ap, _∙_}
 use Rattle.prepared.specs.declared.Prepared.{Prepared}
 use Rattle.forkskinny.specs.Calls.{unforkWith}
 use Rattle.auraski.specs.Entries.{backIn}
+use Rattle.auraski.proofs.Rooms.{parts-in}
 use borrow.Author.Needs.{needs}
 use Rattle.auraski.proofs.with_prepared.auraski_unfork_prepared.Statement.{statement}
 use Rattle.auraski.proofs.with_prepared.auraski_unfork_prepared.Tie as tie
 
-record-in-requires : tie.Need-record-in-requires
-record-in-requires c κs = search needs
+share-in-requires : tie.Need-share-in-requires
+share-in-requires c κs = search needs
 
-unfork-requires : tie.Need-unfork-requires
-unfork-requires c κs = search needs
+cipher-in-requires : tie.Need-cipher-in-requires
+cipher-in-requires c κs = search needs
+
+moving-in-requires : tie.Need-moving-in-requires
+moving-in-requires c κs = search needs
+
+unfork-lent-requires : tie.Need-unfork-lent-requires
+unfork-lent-requires c κs = search needs
 
 returns : tie.Need-returns
 returns c =
-    let a = c .before .before .before .before .before .before .before .args in
-    ap backIn (c .before .before .unfork .ensures ∙ ap (λ (r : Prepared). unforkWith (a .cipher) r (a .tweak .now) (a .block .now) (a .from) (a .want)) (c .before .before .before .before .before .record-in .ensures))
+    let called = c .before .before in
+    let moving = called .before .before .before in
+    let cipher = moving .before .before .before in
+    let share = cipher .before .before in
+    let a = c .before .before .before .before .before .before .before .before .before .before .before .before .args in
+    ap backIn (called .unfork-lent .ensures
+    ∙ ap (λ (r : Prepared). unforkWith (a .cipher) r (a .tweak .now) (a .block .now) (a .from) (a .want))
+    (parts-in (a .key .now) (cipher .cipher-in .ensures) (share .share-in .ensures) (moving .moving-in .ensures)))
 
 pub auraski-unfork-prepared-spec : {M : Type 1} → statement M
-auraski-unfork-prepared-spec = tie.close (tie.spec record-in-requires unfork-requires returns)
+auraski-unfork-prepared-spec =
+    tie.close (tie.spec share-in-requires cipher-in-requires moving-in-requires unfork-lent-requires returns)

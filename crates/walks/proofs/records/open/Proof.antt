@@ -1,8 +1,6 @@
 -- `walks::records::open` meets its contract: the header, and then one block or the walk over the run. Assumes nothing.
 use native.Mathlib.Omega.{arith}
-use mathlib.Core.List.{List}
-use Prim.Native.Nat.{ℕ}
-use lib.ListN.{replicate, length-replicate, length-take}
+use lib.ListN.{length-take}
 use Rattle.ciphers.proofs.Laws.{block-most}
 use Rattle.ciphers.specs.Ciphers.{blockOf}
 use Rattle.prepared.specs.Prepared.{keyIn}
@@ -15,22 +13,24 @@ use Rattle.walks.proofs.records.open.Tie as tie
 block-of-requires : tie.Need-block-of-requires
 block-of-requires c κs = search needs
 
+room-requires : tie.Need-room-requires
+room-requires c κs = search needs
+
 head-requires : tie.Need-head-requires
-head-requires c κs =
-    let start = c .before .before .before .before .before .before .before in (start .pre .0, start .pre .3, length-replicate {A = List ℕ} 97 (replicate 8 0))
+head-requires c κs = search needs
 
 alone-requires : tie.Need-alone-requires
 alone-requires c κs = search needs
 
 array-share-prefix-block : tie.Need-array-share-prefix-block
 array-share-prefix-block c =
-    let after-block-of = c .before .before .before .before in
+    let after-block-of = c .before .before .before .before .before in
     let start = after-block-of .before .before .before .before .before in
     omega (arith, after-block-of .block-of .ensures, block-most (start .args .c))
 
 slice-aggregate-equal : tie.Need-slice-aggregate-equal
 slice-aggregate-equal c =
-    let after-block-of = c .before .before .before .before .before in
+    let after-block-of = c .before .before .before .before .before .before in
     let start = after-block-of .before .before .before .before .before in
     simp length-take (omega (arith, c .before .alone .ok, after-block-of .block-of .ensures, block-most (start .args .c)))
 
@@ -42,7 +42,7 @@ returns c =
     let after-alone = c .before .before in
     let after-head = after-alone .before in
     let test = after-head .before .before in
-    let after-block-of = test .before in
+    let after-block-of = test .before .before in
     let start = after-block-of .before .before .before .before .before in
     let a = start .args in
     let n = blockOf (a .c) in
@@ -51,14 +51,13 @@ returns c =
     (after-alone .alone .ensures) (a .run .now) _ _ (test .if1 .taken) (c .equal .ensures)
 
 head-requires-2 : tie.Need-head-requires-2
-head-requires-2 c κs =
-    let start = c .before .before .before .before .before .before .before in (start .pre .0, start .pre .3, length-replicate {A = List ℕ} 97 (replicate 8 0))
+head-requires-2 c κs = search needs
 
 run-requires : tie.Need-run-requires
 run-requires c κs =
     let after-head2 = c .before .before in
     let test = after-head2 .before .before in
-    let after-block-of = test .before in
+    let after-block-of = test .before .before in
     let start = after-block-of .before .before .before .before .before in
     let h = after-head2 .head2 .ensures in
     (start .pre .1, h .0 .number, start .pre .2, omega (arith, test .if1 .left, after-block-of .block-of .ensures, start .pre .2 .block), h .1)
@@ -71,7 +70,7 @@ returns-2 c =
     let after-run = c .before .before in
     let after-head2 = after-run .before .before .before in
     let test = after-head2 .before .before in
-    let after-block-of = test .before in
+    let after-block-of = test .before .before in
     let start = after-block-of .before .before .before .before .before in
     let a = start .args in
     let n = blockOf (a .c) in
@@ -84,6 +83,7 @@ open-spec =
     tie.close
     (tie.spec
     block-of-requires
+    room-requires
     head-requires
     alone-requires
     array-share-prefix-block

@@ -1,8 +1,5 @@
 -- `walks::records::seal` meets its contract: the header, and then one block or the walk over the body. Assumes nothing.
 use native.Mathlib.Omega.{arith}
-use mathlib.Core.List.{List}
-use Prim.Native.Nat.{ℕ}
-use lib.ListN.{replicate, length-replicate}
 use lib.Seq.{length-take-le}
 use Rattle.ciphers.proofs.Laws.{block-most}
 use Rattle.ciphers.specs.Ciphers.{blockOf}
@@ -13,9 +10,11 @@ use borrow.Author.Needs.{needs}
 use Rattle.walks.proofs.records.seal.Statement.{statement}
 use Rattle.walks.proofs.records.seal.Tie as tie
 
+room-requires : tie.Need-room-requires
+room-requires c κs = search needs
+
 head-requires : tie.Need-head-requires
-head-requires c κs =
-    let start = c .before .before .before .before .before .before in (start .pre .0, start .pre .3, length-replicate {A = List ℕ} 97 (replicate 8 0))
+head-requires c κs = search needs
 
 block-of-requires : tie.Need-block-of-requires
 block-of-requires c κs = search needs
@@ -26,7 +25,7 @@ alone-requires c κs = search needs
 store-requires : tie.Need-store-requires
 store-requires c κs =
     let after-block-of = c .before .before in
-    let start = after-block-of .before .before .before .before .before .before .before .before in (
+    let start = after-block-of .before .before .before .before .before .before .before .before .before in (
       omega (arith, after-block-of .block-of .ensures, block-most (start .args .c)),
       omega
           (arith, after-block-of .block-of .ensures, start .pre .2),
@@ -42,7 +41,7 @@ returns c =
     let after-block-of = after-alone .before .before in
     let after-head = after-block-of .before in
     let test = after-head .before .before in
-    let start = test .before .before .before .before .before in
+    let start = test .before .before .before .before .before .before in
     let a = start .args in
     let n = blockOf (a .c) in
     let M = modeOf (a .k) (a .c) (keyIn (a .c) (a .share .now)) (a .nonce .now) in
@@ -54,14 +53,13 @@ returns c =
     })
 
 head-requires-2 : tie.Need-head-requires-2
-head-requires-2 c κs =
-    let start = c .before .before .before .before .before .before in (start .pre .0, start .pre .3, length-replicate {A = List ℕ} 97 (replicate 8 0))
+head-requires-2 c κs = search needs
 
 body-requires : tie.Need-body-requires
 body-requires c κs =
     let after-head2 = c .before .before in
     let test = after-head2 .before .before in
-    let start = test .before .before .before .before .before in
+    let start = test .before .before .before .before .before .before in
     let h = after-head2 .head2 .ensures in
     (start .pre .1, h .0 .number, omega (arith, test .if1 .left), start .pre .2, h .1)
 
@@ -73,7 +71,7 @@ returns-2 c =
     let after-body = c .before .before in
     let after-head2 = after-body .before .before .before in
     let test = after-head2 .before .before in
-    let start = test .before .before .before .before .before in
+    let start = test .before .before .before .before .before .before in
     let a = start .args in
     let n = blockOf (a .c) in
     let M = modeOf (a .k) (a .c) (keyIn (a .c) (a .share .now)) (a .nonce .now) in
@@ -84,6 +82,7 @@ pub seal-spec : {M : Type 1} → statement M
 seal-spec =
     tie.close
     (tie.spec
+    room-requires
     head-requires
     block-of-requires
     alone-requires

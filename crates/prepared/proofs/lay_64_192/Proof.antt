@@ -1,31 +1,32 @@
--- `prepared::share_64_192` meets its contract: both loops lay cells of the share and step word 2. Assumes nothing.
+-- `prepared::lay_64_192` meets its contract: both loops lay cells of the share and step word 2. Assumes nothing.
 use Prim.Native.Nat.{ℕ, _*_, _+_, _-_, _≤_}
 use mathlib.Core.List.{List}
 use native.Mathlib.Omega.{arith}
 use Rattle.ciphers.specs.declared.Cipher.the-variants.{N64T192}
-use Rattle.prepared.proofs.Loops.{SharesLaid, shares-none, shares-more, shares-next, shares-all, Stepped, stepped-none, stepped-cell, stepped-more, stepped-next}
-use Rattle.prepared.proofs.share_64_192.Statement.{statement}
-use Rattle.prepared.proofs.share_64_192.Tie as tie
+use Rattle.prepared.proofs.Loops.{SharesLaid, shares-none, shares-more, shares-next, shares-rows, Stepped, stepped-none, stepped-cell, stepped-more, stepped-next}
+use Rattle.prepared.proofs.lay_64_192.Statement.{statement}
+use Rattle.prepared.proofs.lay_64_192.Tie as tie
 
 abbrev Inv-loop2 : tie.InvT-loop2
-Inv-loop2 share₀ c₀ k j₀ share c j =
+Inv-loop2 share₀ n c₀ k j₀ share c j =
     (j ≤ 16)
-    × ((t : List ℕ) → SharesLaid N64T192 t (16 * k + 0) share₀ → Stepped t k 0 c₀ → SharesLaid N64T192 t (16 * k + j) share × Stepped t k j c)
+    × ((t d : List ℕ) → SharesLaid N64T192 t d (16 * k + 0) share₀ → Stepped t k 0 c₀
+    → SharesLaid N64T192 t d (16 * k + j) share × Stepped t k j c)
 
 abbrev μ-loop2 : tie.MeasureT-loop2
-μ-loop2 share₀ c₀ k j₀ share c j = 16 - j
+μ-loop2 share₀ n c₀ k j₀ share c j = 16 - j
 
 abbrev Inv-loop : tie.InvT-loop
-Inv-loop share₀ c₀ k₀ share c k = (k ≤ 49) × SharesLaid N64T192 c₀ (16 * k + 0) share × Stepped c₀ k 0 c
+Inv-loop share₀ n c₀ k₀ share c k = (k ≤ n) × SharesLaid N64T192 c₀ share₀ (16 * k + 0) share × Stepped c₀ k 0 c
 
 abbrev μ-loop : tie.MeasureT-loop
-μ-loop share₀ c₀ k₀ share c k = 49 - k
+μ-loop share₀ n c₀ k₀ share c k = n - k
 
 loop-holds : tie.Need-loop-holds Inv-loop2 μ-loop2 Inv-loop μ-loop
-loop-holds c = (omega arith, shares-none N64T192 _, stepped-none _ (omega arith))
+loop-holds c = (omega arith, shares-none N64T192 _ _ (c .pre .1), stepped-none _ (omega arith))
 
 loop2-holds : tie.Need-loop2-holds Inv-loop2 μ-loop2 Inv-loop μ-loop
-loop2-holds c = (omega arith, λ t s w. (s, w))
+loop2-holds c = (omega arith, λ t d s w. (s, w))
 
 array-read-share : tie.Need-array-read-share Inv-loop2 μ-loop2 Inv-loop μ-loop
 array-read-share c = omega arith
@@ -42,8 +43,8 @@ mul-share c = omega arith
 add-share-2 : tie.Need-add-share-2 Inv-loop2 μ-loop2 Inv-loop μ-loop
 add-share-2 c = omega arith
 
-array-write-share : tie.Need-array-write-share Inv-loop2 μ-loop2 Inv-loop μ-loop
-array-write-share c = omega arith
+element-write-share : tie.Need-element-write-share Inv-loop2 μ-loop2 Inv-loop μ-loop
+element-write-share c = omega arith
 
 add-left-nibble : tie.Need-add-left-nibble Inv-loop2 μ-loop2 Inv-loop μ-loop
 add-left-nibble c = omega arith
@@ -72,8 +73,8 @@ loop2-again c =
     let h = c .before .loop2-test .taken in
     let k = l .before .loop-test .taken in (
       omega arith,
-      λ t s w. let (a, b) = l .loop2 .inv .1 t s w in
-          (shares-more N64T192 _ _ _ _ k h (stepped-cell b h) a, stepped-more b _ h (c .left-nibble .ensures)),
+      λ t d s w. let (a, b) = l .loop2 .inv .1 t d s w in
+          (shares-more N64T192 _ _ _ _ (omega arith) h (stepped-cell b h) a, stepped-more b _ h (c .left-nibble .ensures)),
     )
 
 add-k : tie.Need-add-k Inv-loop2 μ-loop2 Inv-loop μ-loop
@@ -86,14 +87,14 @@ loop-again : tie.Need-loop-again Inv-loop2 μ-loop2 Inv-loop μ-loop
 loop-again c =
     let l = c .before in
     let v = l .before .before .loop .inv in
-    let (a, b) = l .loop2 .inv .1 _ (v .1) (v .2) in
+    let (a, b) = l .loop2 .inv .1 _ _ (v .1) (v .2) in
     let e = c .loop2-test .left in (omega arith, shares-next N64T192 _ _ _ (omega arith) a, stepped-next b (omega arith))
 
 returns : tie.Need-returns Inv-loop2 μ-loop2 Inv-loop μ-loop
-returns c = shares-all N64T192 _ _ (omega arith) (c .before .loop .inv .1)
+returns c = shares-rows N64T192 _ _ (c .before .before .args .n) (omega arith) (c .before .loop .inv .1)
 
-pub share-64-192-spec : {M : Type 1} → statement M
-share-64-192-spec =
+pub lay-64-192-spec : {M : Type 1} → statement M
+lay-64-192-spec =
     tie.close
     (tie.spec
     Inv-loop2
@@ -107,7 +108,7 @@ share-64-192-spec =
     array-read-share-2
     mul-share
     add-share-2
-    array-write-share
+    element-write-share
     add-left-nibble
     array-read-left-nibble
     left-nibble-requires

@@ -1,9 +1,9 @@
--- `forkskinny::fork` meets its contract: one return for each case. Assumes nothing.
+-- `forkskinny::fork_lent` meets its contract: one return for each case. Assumes nothing.
 use borrow.Author.Tests.{eq-eqb, ne-eqb, lt-ltb, le-ltb}
 use Rattle.forkskinny.specs.Calls.{forkWith}
 use borrow.Author.Needs.{needs}
-use Rattle.forkskinny.proofs.fork.Statement.{statement}
-use Rattle.forkskinny.proofs.fork.Tie as tie
+use Rattle.forkskinny.proofs.fork_lent.Statement.{statement}
+use Rattle.forkskinny.proofs.fork_lent.Tie as tie
 
 fork-refused-requires : tie.Need-fork-refused-requires
 fork-refused-requires c κs = search needs
@@ -33,8 +33,8 @@ returns-4 : tie.Need-returns-4
 unfolding forkWith
 returns-4 c = simp (le-ltb _ _ (c .before .before .before .if1 .left), ne-eqb _ _ (c .before .before .if2 .left), ne-eqb _ _ (c .before .if3 .left)) (c .fork-refused2 .ensures)
 
-pub fork-spec : {M : Type 1} → statement M
-fork-spec =
+pub fork-lent-spec : {M : Type 1} → statement M
+fork-lent-spec =
     tie.close
     (tie.spec
     fork-refused-requires

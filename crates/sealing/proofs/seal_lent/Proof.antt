@@ -1,13 +1,13 @@
--- `sealing::seal` meets its contract: under the scheme that the number names. Assumes nothing.
+-- `sealing::seal_lent` meets its contract: under the scheme that the number names. Assumes nothing.
 use mathlib.Core.Path.{sym, ap, _∙_}
-use Rattle.prepared.specs.Prepared.{keyOf}
+use Rattle.prepared.specs.Prepared.{keyOf, recordOf}
 use Rattle.sealing.specs.declared.schemes.Scheme.{Scheme}
 use Rattle.sealing.specs.declared.schemes.Named.{Named}
 use Rattle.sealing.specs.Calls.{under, sealUnder, sealWith}
 use Rattle.sealing.proofs.Table.{named-fits}
 use borrow.Author.Needs.{needs}
-use Rattle.sealing.proofs.seal.Statement.{statement}
-use Rattle.sealing.proofs.seal.Tie as tie
+use Rattle.sealing.proofs.seal_lent.Statement.{statement}
+use Rattle.sealing.proofs.seal_lent.Tie as tie
 
 scheme-of-requires : tie.Need-scheme-of-requires
 scheme-of-requires c κs = search needs
@@ -37,7 +37,7 @@ returns c =
     let a = start .args in
     after-seal-with .seal-with .ensures
     ∙ sym (ap (λ (m : Named). under m
-    (λ (s : Scheme). sealUnder s (keyOf (s .cipher) (a .key)) (a .nonce .now) (a .header .now) (a .body .now) (a .room .now)) (a .room .now))
+    (λ (s : Scheme). sealUnder s (keyOf (s .cipher) (recordOf (a .own) (a .share .now) (a .moving))) (a .nonce .now) (a .header .now) (a .body .now) (a .room .now)) (a .room .now))
     (sym (after-scheme-of .scheme-of .ensures) ∙ after-named .named .given .1))
 
 returns-2 : tie.Need-returns-2
@@ -47,11 +47,11 @@ returns-2 c =
     let start = after-scheme-of .before .before .before .before .before in
     let a = start .args in
     sym (ap (λ (m : Named). under m
-    (λ (s : Scheme). sealUnder s (keyOf (s .cipher) (a .key)) (a .nonce .now) (a .header .now) (a .body .now) (a .room .now)) (a .room .now))
+    (λ (s : Scheme). sealUnder s (keyOf (s .cipher) (recordOf (a .own) (a .share .now) (a .moving))) (a .nonce .now) (a .header .now) (a .body .now) (a .room .now)) (a .room .now))
     (sym (after-scheme-of .scheme-of .ensures) ∙ c .enum-told .given .1))
 
-pub seal-spec : {M : Type 1} → statement M
-seal-spec =
+pub seal-lent-spec : {M : Type 1} → statement M
+seal-lent-spec =
     tie.close
     (tie.spec
     scheme-of-requires

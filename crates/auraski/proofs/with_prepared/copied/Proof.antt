@@ -1,10 +1,10 @@
--- `auraski::with_prepared::share_in` meets its contract: its loop copies. Assumes nothing.
+-- `auraski::with_prepared::copied` meets its contract: its loop copies. Assumes nothing.
 use mathlib.Core.Path.{refl}
 use Prim.Native.Nat.{_-_, _≤_}
 use native.Mathlib.Omega.{arith}
 use Rattle.blocks.proofs.Over.{Laid, laid-none, laid-more, laid-all}
-use Rattle.auraski.proofs.with_prepared.share_in.Statement.{statement}
-use Rattle.auraski.proofs.with_prepared.share_in.Tie as tie
+use Rattle.auraski.proofs.with_prepared.copied.Statement.{statement}
+use Rattle.auraski.proofs.with_prepared.copied.Tie as tie
 
 abbrev Inv-loop : tie.InvT-loop
 Inv-loop part share₀ i₀ share i = (i ≤ 784) × Laid part share₀ i share
@@ -33,8 +33,8 @@ loop-again c = let l = c .before .before .loop in (omega arith, laid-more (l .in
 returns : tie.Need-returns Inv-loop μ-loop
 returns c = laid-all (c .before .loop .inv .1) (c .before .before .pre) (omega arith) (omega arith)
 
-pub share-in-spec : {M : Type 1} → statement M
-share-in-spec =
+pub copied-spec : {M : Type 1} → statement M
+copied-spec =
     tie.close
     (tie.spec
     Inv-loop

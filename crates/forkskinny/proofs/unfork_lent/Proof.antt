@@ -1,9 +1,9 @@
--- `forkskinny::unfork` meets its contract: one return for each case. Assumes nothing.
+-- `forkskinny::unfork_lent` meets its contract: one return for each case. Assumes nothing.
 use borrow.Author.Tests.{eq-eqb, ne-eqb, lt-ltb, le-ltb}
 use Rattle.forkskinny.specs.Calls.{unforkWith}
 use borrow.Author.Needs.{needs}
-use Rattle.forkskinny.proofs.unfork.Statement.{statement}
-use Rattle.forkskinny.proofs.unfork.Tie as tie
+use Rattle.forkskinny.proofs.unfork_lent.Statement.{statement}
+use Rattle.forkskinny.proofs.unfork_lent.Tie as tie
 
 unfork-refused-requires : tie.Need-unfork-refused-requires
 unfork-refused-requires c κs = search needs
@@ -40,8 +40,8 @@ returns-5 : tie.Need-returns-5
 unfolding unforkWith
 returns-5 c = simp (le-ltb _ _ (c .before .before .before .before .if1 .left), le-ltb _ _ (c .before .before .before .if2 .left), ne-eqb _ _ (c .before .before .if3 .left), ne-eqb _ _ (c .before .if4 .left)) (c .unfork-refused3 .ensures)
 
-pub unfork-spec : {M : Type 1} → statement M
-unfork-spec =
+pub unfork-lent-spec : {M : Type 1} → statement M
+unfork-lent-spec =
     tie.close
     (tie.spec
     unfork-refused-requires
