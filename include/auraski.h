@@ -38,7 +38,7 @@
 /* A call takes at most so many bytes of stack, its arguments included, whatever the record's length: an empty one takes as much as one with
  * a header and a body of 1,048,576 bytes. This is measured, not proved, with the names of the C library bound before the call (-static or
  * -Wl,-z,now): where the loader binds them at the first call, its own stack comes on top. */
-#define AURASKI_STACK_BYTES 5120u
+#define AURASKI_STACK_BYTES 4096u
 
 /* GCC and clang warn of an answer that is not looked at, and of a null pointer where they see that it is one; where they don't, they go by
  * it that it is none. */
