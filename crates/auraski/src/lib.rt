@@ -20,7 +20,7 @@ pub extern "C" fn auraski_fork(
 ) -> u32
     ensures { λ r. ⌜ blocks r (now (half0 .exit)) (now (half1 .exit)) ≡ halvesIn (forkOf cipher (now (key .entry)) (now (tweak .entry)) (now (block .entry)) want) ⌝ }
 {
-    let f = forkskinny::fork_by_key(cipher, *key, *tweak, *block, want);
+    let f = forkskinny::calls::fork_by_key(cipher, *key, *tweak, *block, want);
     let a = f.half0;
     let b = f.half1;
     *half0 = a;
@@ -42,7 +42,7 @@ pub extern "C" fn auraski_unfork(
 ) -> u32
     ensures { λ r. ⌜ blocks r (now (input .exit)) (now (other .exit)) ≡ backIn (unforkOf cipher (now (key .entry)) (now (tweak .entry)) (now (block .entry)) from want) ⌝ }
 {
-    let f = forkskinny::unfork_by_key(cipher, *key, *tweak, *block, from, want);
+    let f = forkskinny::calls::unfork_by_key(cipher, *key, *tweak, *block, from, want);
     let a = f.input;
     let b = f.other;
     *input = a;

@@ -86,7 +86,7 @@ pub extern "C" fn auraski_fork_prepared(
     ensures { λ r. ⌜ blocks r (now (half0 .exit)) (now (half1 .exit)) ≡ halvesIn (forkWith cipher (recordIn (now (key .entry))) (now (tweak .entry)) (now (block .entry)) want) ⌝ }
 {
     let share = share_in(key);
-    let f = forkskinny::fork_lent(
+    let f = forkskinny::calls::fork_lent(
         cipher,
         cipher_in(key),
         &share,
@@ -117,7 +117,7 @@ pub extern "C" fn auraski_unfork_prepared(
     ensures { λ r. ⌜ blocks r (now (input .exit)) (now (other .exit)) ≡ backIn (unforkWith cipher (recordIn (now (key .entry))) (now (tweak .entry)) (now (block .entry)) from want) ⌝ }
 {
     let share = share_in(key);
-    let f = forkskinny::unfork_lent(
+    let f = forkskinny::calls::unfork_lent(
         cipher,
         cipher_in(key),
         &share,

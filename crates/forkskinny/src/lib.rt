@@ -1,5 +1,6 @@
-// ForkSkinny: the fork forward and back, and the block calls.
+// ForkSkinny: the fork forward and back, and what a block call works out once its cipher and its key's share are known.
 pub mod by_cipher;
+pub mod calls;
 
 ghost use mathlib.Core.Path.{_≡_};
 ghost use mathlib.Core.Bool.{true};
@@ -8,19 +9,18 @@ ghost use Prim.Native.Nat.{ℕ, _+_, _<_, _≤_};
 ghost use Rattle.schedule.specs.declared.Tweakey.{Tweakey};
 ghost use Rattle.schedule.specs.Schedule.{RoundKeys};
 ghost use Rattle.ciphers.specs.Ciphers.{widthOf, wordsOf, initOf, branchOf, tk};
-ghost use Rattle.prepared.specs.Prepared.{keyIn, recordOf, Made};
+ghost use Rattle.prepared.specs.Prepared.{keyIn, Made};
 ghost use Rattle.kept.specs.Kept.{Lent};
 ghost use Rattle.forkskinny.specs.declared.Branch.the-variants.{Near, Far};
 ghost use Rattle.forkskinny.specs.ForkSkinny.{sideOf, otherOf, startOf, enter, forked, branch, unbranch, unforked};
 ghost use Rattle.forkskinny.specs.Reach.{farIf, takesFar, reachOf, forkReach, unforkReach};
-ghost use Rattle.forkskinny.specs.Calls.{given, wants, roundsIf, roundsFor, forkRounds, forkRefusedWith, forkBy, forkOf, forkUnder, forkWith, unforkRounds, unforkRefusedWith, unforkBy, unforkOf, unforkUnder, unforkWith};
+ghost use Rattle.forkskinny.specs.Calls.{given, wants, roundsIf, roundsFor, forkRounds, forkBy, unforkRounds, unforkBy};
 use by_cipher::run;
 use by_cipher::run_apart;
 use by_cipher::run_both;
 use by_cipher::unrun;
 use ciphers::Cipher;
 use kept::Kept;
-use prepared::Prepared;
 
 // After the fork the near branch goes on, and the far one takes the rounds after it.
 pub enum Branch {
@@ -165,7 +165,7 @@ fn both_ends(c: Cipher, b: Branch, keys: &[[u8; 8]; 97], s: [[u8; 4]; 4]) -> Bot
     Both { first, second }
 }
 
-// ---- the block calls
+// ---- a block call, its cipher known
 
 // Result k is wanted: it alone, or both.
 fn is_wanted(k: u32, want: u32) -> bool
@@ -232,17 +232,6 @@ pub struct Forked {
     pub rounds: u32,
 }
 
-fn fork_refused(number: u32) -> Forked
-    ensures { λ r. ⌜ r ≡ forkRefusedWith number ⌝ }
-{
-    Forked {
-        number,
-        half0: [0u8; 16],
-        half1: [0u8; 16],
-        rounds: 0,
-    }
-}
-
 // The rounds whose keys a call forward takes.
 pub fn fork_reach(c: Cipher, want: u32) -> usize
     ensures { λ r. ⌜ (r ≡ forkReach c want) × (0 < r) × (r ≤ 87) ⌝ }
@@ -279,7 +268,7 @@ pub fn fork_laid(c: Cipher, keys: &[[u8; 8]; 97], block: [u8; 16], want: u32) ->
 }
 
 // The same from a key's share, in a room of its own.
-fn fork_by(c: Cipher, share: &[u8; 784], tweak: [u8; 16], block: [u8; 16], want: u32) -> Forked
+pub fn fork_by(c: Cipher, share: &[u8; 784], tweak: [u8; 16], block: [u8; 16], want: u32) -> Forked
     requires { ⌜ Made c (now share) ⌝ }
     ensures { λ r. ⌜ r ≡ forkBy c (keyIn c (now (share .entry))) tweak block want ⌝ }
 {
@@ -317,86 +306,6 @@ pub fn fork_on(
     }
 }
 
-fn fork_of_key(c: Cipher, key: [u8; 16], tweak: [u8; 16], block: [u8; 16], want: u32) -> Forked
-    ensures { λ r. ⌜ r ≡ forkBy c key tweak block want ⌝ }
-{
-    ciphers::bytes_known(&key);
-    let share = prepared::share_of(c, key);
-    fork_by(c, &share, tweak, block, want)
-}
-
-// ForkSkinny forward: half 0 (want 0), half 1 (want 1) or both (want 2) of a block, under the cipher that a number names.
-pub fn fork_by_key(
-    cipher: u32,
-    key: [u8; 16],
-    tweak: [u8; 16],
-    block: [u8; 16],
-    want: u32,
-) -> Forked
-    ensures { λ r. ⌜ r ≡ forkOf cipher key tweak block want ⌝ }
-{
-    if 2 < want {
-        return fork_refused(1);
-    }
-    if cipher == 1 {
-        return fork_of_key(Cipher::N64T192, key, tweak, block, want);
-    }
-    if cipher == 2 {
-        return fork_of_key(Cipher::N128T256, key, tweak, block, want);
-    }
-    fork_refused(1)
-}
-
-fn fork_under(
-    c: Cipher,
-    own: u32,
-    share: &[u8; 784],
-    moving: [u8; 16],
-    tweak: [u8; 16],
-    block: [u8; 16],
-    want: u32,
-) -> Forked
-    ensures { λ r. ⌜ r ≡ forkUnder c (recordOf own (now (share .entry)) moving) tweak block want ⌝ }
-{
-    if prepared::judge(c, own, share, moving) {
-        return fork_by(c, share, tweak, block, want);
-    }
-    fork_refused(2)
-}
-
-// The same with a prepared key, whose share is lent. Refused with 2, after 1, where it is not one of this cipher's.
-pub fn fork_lent(
-    cipher: u32,
-    own: u32,
-    share: &[u8; 784],
-    moving: [u8; 16],
-    tweak: [u8; 16],
-    block: [u8; 16],
-    want: u32,
-) -> Forked
-    ensures { λ r. ⌜ r ≡ forkWith cipher (recordOf own (now (share .entry)) moving) tweak block want ⌝ }
-{
-    if 2 < want {
-        return fork_refused(1);
-    }
-    if cipher == 1 {
-        return fork_under(Cipher::N64T192, own, share, moving, tweak, block, want);
-    }
-    if cipher == 2 {
-        return fork_under(Cipher::N128T256, own, share, moving, tweak, block, want);
-    }
-    fork_refused(1)
-}
-
-// The same with a prepared key.
-pub fn fork(cipher: u32, key: Prepared, tweak: [u8; 16], block: [u8; 16], want: u32) -> Forked
-    ensures { λ r. ⌜ r ≡ forkWith cipher key tweak block want ⌝ }
-{
-    let share = key.share;
-    let moving = key.tweak;
-    fork_lent(cipher, key.cipher, &share, moving, tweak, block, want)
-}
-
 // The rounds of a call back: those of the branch whose half is given, those before the fork where the input is asked for, and those of
 // the other branch where its half is.
 fn unfork_rounds(c: Cipher, want: u32) -> u32
@@ -414,17 +323,6 @@ pub struct Unforked {
     pub input: [u8; 16],
     pub other: [u8; 16],
     pub rounds: u32,
-}
-
-fn unfork_refused(number: u32) -> Unforked
-    ensures { λ r. ⌜ r ≡ unforkRefusedWith number ⌝ }
-{
-    Unforked {
-        number,
-        input: [0u8; 16],
-        other: [0u8; 16],
-        rounds: 0,
-    }
 }
 
 // The rounds whose keys a call back takes.
@@ -469,7 +367,7 @@ pub fn unfork_laid(
 }
 
 // The same from a key's share, in a room of its own.
-fn unfork_by(
+pub fn unfork_by(
     c: Cipher,
     share: &[u8; 784],
     tweak: [u8; 16],
@@ -513,125 +411,4 @@ pub fn unfork_on(
         unforked,
         kept: turned,
     }
-}
-
-fn unfork_of_key(
-    c: Cipher,
-    key: [u8; 16],
-    tweak: [u8; 16],
-    block: [u8; 16],
-    from: u32,
-    want: u32,
-) -> Unforked
-    ensures { λ r. ⌜ r ≡ unforkBy c key tweak block from want ⌝ }
-{
-    ciphers::bytes_known(&key);
-    let share = prepared::share_of(c, key);
-    unfork_by(c, &share, tweak, block, from, want)
-}
-
-// Back from a half (from 0 or 1): the input block (want 0), the other half (want 1) or both (want 2).
-pub fn unfork_by_key(
-    cipher: u32,
-    key: [u8; 16],
-    tweak: [u8; 16],
-    block: [u8; 16],
-    from: u32,
-    want: u32,
-) -> Unforked
-    ensures { λ r. ⌜ r ≡ unforkOf cipher key tweak block from want ⌝ }
-{
-    if 1 < from {
-        return unfork_refused(1);
-    }
-    if 2 < want {
-        return unfork_refused(1);
-    }
-    if cipher == 1 {
-        return unfork_of_key(Cipher::N64T192, key, tweak, block, from, want);
-    }
-    if cipher == 2 {
-        return unfork_of_key(Cipher::N128T256, key, tweak, block, from, want);
-    }
-    unfork_refused(1)
-}
-
-fn unfork_under(
-    c: Cipher,
-    own: u32,
-    share: &[u8; 784],
-    moving: [u8; 16],
-    tweak: [u8; 16],
-    block: [u8; 16],
-    from: u32,
-    want: u32,
-) -> Unforked
-    ensures { λ r. ⌜ r ≡ unforkUnder c (recordOf own (now (share .entry)) moving) tweak block from want ⌝ }
-{
-    if prepared::judge(c, own, share, moving) {
-        return unfork_by(c, share, tweak, block, from, want);
-    }
-    unfork_refused(2)
-}
-
-// The same with a prepared key, whose share is lent. Refused with 2, after 1, where it is not one of this cipher's.
-pub fn unfork_lent(
-    cipher: u32,
-    own: u32,
-    share: &[u8; 784],
-    moving: [u8; 16],
-    tweak: [u8; 16],
-    block: [u8; 16],
-    from: u32,
-    want: u32,
-) -> Unforked
-    ensures { λ r. ⌜ r ≡ unforkWith cipher (recordOf own (now (share .entry)) moving) tweak block from want ⌝ }
-{
-    if 1 < from {
-        return unfork_refused(1);
-    }
-    if 2 < want {
-        return unfork_refused(1);
-    }
-    if cipher == 1 {
-        return unfork_under(
-            Cipher::N64T192,
-            own,
-            share,
-            moving,
-            tweak,
-            block,
-            from,
-            want,
-        );
-    }
-    if cipher == 2 {
-        return unfork_under(
-            Cipher::N128T256,
-            own,
-            share,
-            moving,
-            tweak,
-            block,
-            from,
-            want,
-        );
-    }
-    unfork_refused(1)
-}
-
-// The same with a prepared key.
-pub fn unfork(
-    cipher: u32,
-    key: Prepared,
-    tweak: [u8; 16],
-    block: [u8; 16],
-    from: u32,
-    want: u32,
-) -> Unforked
-    ensures { λ r. ⌜ r ≡ unforkWith cipher key tweak block from want ⌝ }
-{
-    let share = key.share;
-    let moving = key.tweak;
-    unfork_lent(cipher, key.cipher, &share, moving, tweak, block, from, want)
 }

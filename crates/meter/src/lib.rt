@@ -18,7 +18,7 @@ pub extern "C" fn meter_fork(
 ) -> u32
     ensures { λ r. ⌜ forkTold r (now (half0 .exit)) (now (half1 .exit)) (now (rounds .exit)) ≡ forkOf cipher (now (key .entry)) (now (tweak .entry)) (now (block .entry)) want ⌝ }
 {
-    let f = forkskinny::fork_by_key(cipher, *key, *tweak, *block, want);
+    let f = forkskinny::calls::fork_by_key(cipher, *key, *tweak, *block, want);
     let a = f.half0;
     let b = f.half1;
     *half0 = a;
@@ -41,7 +41,7 @@ pub extern "C" fn meter_unfork(
 ) -> u32
     ensures { λ r. ⌜ unforkTold r (now (input .exit)) (now (other .exit)) (now (rounds .exit)) ≡ unforkOf cipher (now (key .entry)) (now (tweak .entry)) (now (block .entry)) from want ⌝ }
 {
-    let u = forkskinny::unfork_by_key(cipher, *key, *tweak, *block, from, want);
+    let u = forkskinny::calls::unfork_by_key(cipher, *key, *tweak, *block, from, want);
     let a = u.input;
     let b = u.other;
     *input = a;

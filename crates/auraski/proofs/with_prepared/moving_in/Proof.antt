@@ -2,7 +2,7 @@
 use mathlib.Core.Path.{_∙_}
 use mathlib.Core.List.{append-nil}
 use native.Mathlib.Omega.{arith}
-use lib.ListN.{take, drop}
+use lib.ListN.{take, drop, length-take}
 use lib.Seq.{take-all}
 use borrow.Author.Needs.{needs}
 use Rattle.auraski.proofs.with_prepared.moving_in.Statement.{statement}
@@ -23,7 +23,7 @@ front-requires c κs = search needs
 returns : tie.Need-returns
 returns c =
     let part = take 16 (drop 785 (c .before .before .before .args .room .now)) in
-    c .front .ensures ∙ append-nil (take 16 part) ∙ take-all 16 part (omega arith)
+    c .front .ensures ∙ append-nil (take 16 part) ∙ take-all 16 part (simp length-take (omega arith))
 
 pub moving-in-spec : {M : Type 1} → statement M
 moving-in-spec =

@@ -1,9 +1,9 @@
--- `forkskinny::fork_by_key` meets its contract: one return for each case. Assumes nothing.
+-- `forkskinny::calls::fork_by_key` meets its contract: one return for each case. Assumes nothing.
 use borrow.Author.Tests.{eq-eqb, ne-eqb, lt-ltb, le-ltb}
 use Rattle.forkskinny.specs.Calls.{forkOf}
 use borrow.Author.Needs.{needs}
-use Rattle.forkskinny.proofs.fork_by_key.Statement.{statement}
-use Rattle.forkskinny.proofs.fork_by_key.Tie as tie
+use Rattle.forkskinny.proofs.calls.fork_by_key.Statement.{statement}
+use Rattle.forkskinny.proofs.calls.fork_by_key.Tie as tie
 
 fork-refused-requires : tie.Need-fork-refused-requires
 fork-refused-requires c κs = search needs

@@ -1,4 +1,4 @@
--- `forkskinny::fork_of_key` meets its contract: the share was made of this key. Assumes nothing.
+-- `forkskinny::calls::fork_of_key` meets its contract: the share was made of this key. Assumes nothing.
 use mathlib.Core.Path.{_∙_, ap}
 use mathlib.Core.List.{List}
 use Prim.Native.Nat.{ℕ}
@@ -6,8 +6,8 @@ use native.Mathlib.Omega.{arith}
 use Rattle.forkskinny.specs.Calls.{forkBy}
 use Rattle.prepared.proofs.Admitted.{made-of}
 use borrow.Author.Needs.{needs}
-use Rattle.forkskinny.proofs.fork_of_key.Statement.{statement}
-use Rattle.forkskinny.proofs.fork_of_key.Tie as tie
+use Rattle.forkskinny.proofs.calls.fork_of_key.Statement.{statement}
+use Rattle.forkskinny.proofs.calls.fork_of_key.Tie as tie
 
 slice-aggregate-bytes-known : tie.Need-slice-aggregate-bytes-known
 slice-aggregate-bytes-known c = search needs

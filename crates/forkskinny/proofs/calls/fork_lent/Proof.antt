@@ -1,9 +1,9 @@
--- `forkskinny::fork_lent` meets its contract: one return for each case. Assumes nothing.
+-- `forkskinny::calls::fork_lent` meets its contract: one return for each case. Assumes nothing.
 use borrow.Author.Tests.{eq-eqb, ne-eqb, lt-ltb, le-ltb}
 use Rattle.forkskinny.specs.Calls.{forkWith}
 use borrow.Author.Needs.{needs}
-use Rattle.forkskinny.proofs.fork_lent.Statement.{statement}
-use Rattle.forkskinny.proofs.fork_lent.Tie as tie
+use Rattle.forkskinny.proofs.calls.fork_lent.Statement.{statement}
+use Rattle.forkskinny.proofs.calls.fork_lent.Tie as tie
 
 fork-refused-requires : tie.Need-fork-refused-requires
 fork-refused-requires c κs = search needs
