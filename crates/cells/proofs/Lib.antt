@@ -4,4 +4,5 @@ pub mod Lanes
 pub mod Laws
 mod Rules
 mod Steps
+pub mod Tabs
 pub mod Xor

@@ -1,6 +1,6 @@
 -- What is made of bytes are cells and the other way round, over the width; a state as a block and back; the branch constant
 -- undone; and the rounds of a cipher are no more than the constants. Assumes nothing.
-use mathlib.Core.Path.{_≡_, refl, sym, ap, _∙_}
+use mathlib.Core.Path.{_≡_, refl, ap}
 use mathlib.Core.List.{List, [], _∷_, _++_}
 use Prim.Native.Nat.{ℕ, zero, suc, _+_, _*_, _/_, _%_, _<_, _≤_}
 use native.Mathlib.Omega.{arith}
@@ -9,12 +9,11 @@ use borrow.Author.Tests.{ltb-true}
 use lib.Dec.{lit≤, lit<, ltb}
 use lib.ListN.{length, getD, take, replicate}
 use lib.Bits.{bitXor}
-use lib.Seq.{ext-getD, getD-take, length-take-le, take-all}
+use lib.Seq.{getD-take}
 use Rattle.cells.specs.Cells.{Width, Nibble, Byte, size, Bytes, LowCells}
-use Rattle.cells.proofs.Below.{tab, table}
 use Rattle.cells.proofs.Laws.{step2-law, small-low, xor-low}
+use Rattle.cells.proofs.Tabs.{spelled, spelled-all, tab-low}
 use Rattle.cells.proofs.Xor.{xor-last}
-use Rattle.schedule.proofs.Low.{tab-low}
 use Rattle.rounds.specs.State.{State, cell}
 use Rattle.rounds.proofs.Undo.{Cells, low-grid}
 use Rattle.ciphers.specs.declared.Cipher.{Cipher}
@@ -100,20 +99,10 @@ load-unload Byte s h = h .square
 pub split-join : (x : ℕ) → x < 256 → x / 16 % 16 * 16 + x % 16 % 16 ≡ x
 split-join x h = omega arith
 
-tab-length : (f : ℕ → ℕ) (n i : ℕ) → length (tab f i n) ≡ n
-tab-length f zero i = refl
-tab-length f (suc n) i = ap suc (tab-length f n (suc i))
-
--- the first n of a list, place by place
-spelled : (l : List ℕ) (n : ℕ) → n ≤ length l → tab (λ (k : ℕ). getD l k 0) 0 n ≡ take n l
-spelled l n h =
-    ext-getD 0 (tab (λ (k : ℕ). getD l k 0) 0 n) (take n l) (tab-length (λ (k : ℕ). getD l k 0) n 0 ∙ sym (length-take-le n l h))
-    (λ k p. let q : k < n = omega (arith, tab-length (λ (k : ℕ). getD l k 0) n 0) in table (λ (k : ℕ). getD l k 0) n k q ∙ sym (getD-take n l k 0 q))
-
 pub unload-load : (w : Width) (b : List ℕ) → length b ≡ 16 → Bytes b → unload w (load w b) ≡ counted w b
 unfolding load unload
 unload-load Nibble b e h = simp (split-join, h .at) (ap (λ (l : List ℕ). l ++ replicate 8 0) (spelled b 8 (omega arith)))
-unload-load Byte b e h = spelled b 16 (omega arith) ∙ take-all 16 b (omega arith)
+unload-load Byte b e h = spelled-all b 16 e
 
 -- ---- only the bytes of a block are read, of a block and of a tweak
 

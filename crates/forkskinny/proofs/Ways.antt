@@ -6,10 +6,11 @@ use Prim.Native.Nat.{ℕ, _*_, _/_, _%_}
 use native.Mathlib.Omega.{arith}
 use lib.ListN.{length}
 use Rattle.cells.specs.Cells.{Width, Nibble, Byte, Words, Bytes, Block, LowCells}
-use Rattle.cells.proofs.Below.{tab}
+use Rattle.cells.specs.Tabs.{tab}
+use Rattle.cells.proofs.Tabs.{tab-low}
 use Rattle.schedule.specs.declared.Tweakey.{Tweakey}
 use Rattle.schedule.specs.Schedule.{advance}
-use Rattle.schedule.proofs.Low.{tab-low, advance-low}
+use Rattle.schedule.proofs.Low.{advance-low}
 use Rattle.rounds.specs.State.{State, cell}
 use Rattle.rounds.proofs.Undo.{Cells}
 use Rattle.runs.specs.Runs.{rounds, unrounds}

@@ -8,6 +8,7 @@ use lib.Bits.{bitXor, xor-shr, xor-mod, xor-zero-r}
 use lib.ListN.{length, getD, take, set}
 use lib.Seq.{ext-getD, getD-take, getD-set-other, length-take-le}
 use Rattle.cells.specs.Cells.{Bytes, Nibble, Byte}
+use Rattle.cells.proofs.Tabs.{tab-same, agree}
 use Rattle.cells.proofs.Xor.{xor-first}
 use Rattle.schedule.specs.declared.Tweakey.{Tweakey}
 use Rattle.schedule.specs.Schedule.{RoundKeys}
@@ -15,11 +16,9 @@ use Rattle.schedule.specs.Share.{LastChanged}
 use Rattle.ciphers.specs.declared.Cipher.{Cipher}
 use Rattle.ciphers.specs.declared.Cipher.the-variants.{N64T192, N128T256}
 use Rattle.ciphers.specs.Ciphers.{widthOf, wordsOf, blockOf, cellOf, nibbleFrom, sixteen, keyCells, tk}
-use Rattle.ciphers.proofs.Laws.{tk-at, tk-low}
+use Rattle.ciphers.proofs.Laws.{tk-low}
 use Rattle.prepared.specs.Prepared.{keyIn}
 use Rattle.prepared.proofs.Found.{key-block}
-use Rattle.prepared.proofs.Listed.{listed-same}
-use Rattle.prepared.proofs.Loops.{agree-16}
 use Rattle.kept.specs.declared.Kept.{Kept}
 use Rattle.kept.specs.Kept.{Keeps, TurnedTo}
 
@@ -69,10 +68,10 @@ module _ (key : List ℕ) where
   unfolding tk
   cells-same N64T192 a b f =
       ap (λ (l : List ℕ). record { cells = sixteen (cellOf Nibble key) ++ sixteen (λ k. cellOf Nibble key (16 + k)) ++ l; at = 0 })
-      (listed-same (cellOf Nibble a) (cellOf Nibble b) 16 (λ k h. nibbles-same a b f k 0 (omega arith)))
+      (tab-same (cellOf Nibble a) (cellOf Nibble b) 16 0 (λ k h. nibbles-same a b f k 0 (omega arith)))
   cells-same N128T256 a b f =
       ap (λ (l : List ℕ). record { cells = sixteen (cellOf Byte key) ++ l ++ sixteen (λ k. 0); at = 0 })
-      (listed-same (cellOf Byte a) (cellOf Byte b) 16 f)
+      (tab-same (cellOf Byte a) (cellOf Byte b) 16 0 f)
 
   module _ (a b : List ℕ) (d : ℕ) where
     changed : (c : Cipher) → Bytes key → Bytes b → Front (blockOf c - 1) a b → d ≡ bitXor (getD a (blockOf c - 1) 0) (getD b (blockOf c - 1) 0)
@@ -82,13 +81,13 @@ module _ (key : List ℕ) where
       first = refl;
       low = tk-low N64T192 key b hk hb;
       before = λ j h. elim (decLt j 16) [
-        | yes l ↦ agree-16 (λ m. getD (keyCells N64T192 key b) m 0) (λ m. getD (keyCells N64T192 key a) m 0) refl j l
+        | yes l ↦ agree (λ m. getD (keyCells N64T192 key b) m 0) (λ m. getD (keyCells N64T192 key a) m 0) 16 refl j l
         | no l ↦ elim (decLt j 32) [
-          | yes m ↦ shift j 16 (omega arith) (agree-16 (λ m. getD (keyCells N64T192 key b) (16 + m) 0) (λ m. getD (keyCells N64T192 key a) (16 + m) 0) refl (j - 16) (omega arith))
+          | yes m ↦ shift j 16 (omega arith) (agree (λ m. getD (keyCells N64T192 key b) (16 + m) 0) (λ m. getD (keyCells N64T192 key a) (16 + m) 0) 16 refl (j - 16) (omega arith))
           | no m ↦ shift j 32 (omega arith)
-              (agree-16 (λ m. getD (keyCells N64T192 key b) (32 + m) 0) (cellOf Nibble b) refl (j - 32) (omega arith)
+              (agree (λ m. getD (keyCells N64T192 key b) (32 + m) 0) (cellOf Nibble b) 16 refl (j - 32) (omega arith)
               ∙ sym (nibbles-same a b f (j - 32) 0 (omega arith))
-              ∙ sym (agree-16 (λ m. getD (keyCells N64T192 key a) (32 + m) 0) (cellOf Nibble a) refl (j - 32) (omega arith)))
+              ∙ sym (agree (λ m. getD (keyCells N64T192 key a) (32 + m) 0) (cellOf Nibble a) 16 refl (j - 32) (omega arith)))
         ]
       ];
       cell14 = over (getD a 7 0 / 16) (getD b 7 0 / 16) (d / 16) (ap (λ (x : ℕ). x / 16) e ∙ xor-shr (getD a 7 0) (getD b 7 0) 4);
@@ -102,12 +101,12 @@ module _ (key : List ℕ) where
       first = refl;
       low = tk-low N128T256 key b hk hb;
       before = λ j h. elim (decLt j 16) [
-        | yes l ↦ agree-16 (λ m. getD (keyCells N128T256 key b) m 0) (λ m. getD (keyCells N128T256 key a) m 0) refl j l
+        | yes l ↦ agree (λ m. getD (keyCells N128T256 key b) m 0) (λ m. getD (keyCells N128T256 key a) m 0) 16 refl j l
         | no l ↦ let i : 16 + (j - 16) ≡ j = omega arith in
             subst (λ (i : ℕ). getD (keyCells N128T256 key b) i 0 ≡ getD (keyCells N128T256 key a) i 0) i
-            (agree-16 (λ m. getD (keyCells N128T256 key b) (16 + m) 0) (cellOf Byte b) refl (j - 16) (omega arith)
+            (agree (λ m. getD (keyCells N128T256 key b) (16 + m) 0) (cellOf Byte b) 16 refl (j - 16) (omega arith)
             ∙ sym (f (j - 16) (omega arith))
-            ∙ sym (agree-16 (λ m. getD (keyCells N128T256 key a) (16 + m) 0) (cellOf Byte a) refl (j - 16) (omega arith)))
+            ∙ sym (agree (λ m. getD (keyCells N128T256 key a) (16 + m) 0) (cellOf Byte a) 16 refl (j - 16) (omega arith)))
       ];
       cell14 = sym (f 14 (omega arith)) ∙ sym (xor-zero-r (getD a 14 0));
       cell15 = over (getD a 15 0) (getD b 15 0) d e;

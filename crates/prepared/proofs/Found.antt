@@ -10,8 +10,10 @@ use lib.Bits.{bitXor, bitOr, xor-comm}
 use lib.Dec.{eqb}
 use lib.ListN.{length, getD, take, drop, replicate, length-append, drop-of-length-le}
 use lib.Seq.{ext-getD, getD-take, length-take-le, take-all, take-append-seam}
-use Rattle.cells.specs.Cells.{Bytes, Block, Nibble, step2, step3}
+use Rattle.cells.specs.Cells.{Bytes, Block, Nibble, Byte, step2, step3}
+use Rattle.cells.specs.Tabs.{tab}
 use Rattle.cells.proofs.Below as below
+use Rattle.cells.proofs.Tabs.{table, tab-long, tab-same, tab-low, agree, spelled-all}
 use Rattle.cells.proofs.Xor.{xor-assoc, xor-first, xor-last}
 use Rattle.schedule.specs.Sixteen.{times}
 use Rattle.schedule.specs.Share.{shareCell}
@@ -24,9 +26,8 @@ use Rattle.blocks.proofs.Collected.{or-none}
 use Rattle.blocks.proofs.Parts.{part-rest}
 use Rattle.prepared.specs.declared.Prepared.{Prepared}
 use Rattle.prepared.specs.declared.Preparation.{Preparation}
-use Rattle.prepared.specs.Prepared.{listed, unmoving, sharesOf, shareOf, preparedOf, preparedBy, noRecord, first, second, wordsIn, joined, keyIn, admitted}
-use Rattle.prepared.proofs.Listed.{listed-at, listed-long, listed-same, listed-own, listed-bytes}
-use Rattle.prepared.proofs.Loops.{agree-16, shares-long}
+use Rattle.prepared.specs.Prepared.{unmoving, sharesOf, shareOf, preparedOf, preparedBy, noRecord, first, second, wordsIn, joined, keyIn, admitted}
+use Rattle.prepared.proofs.Loops.{shares-long}
 use Rattle.prepared.proofs.Repeats.{same-if, repeats}
 
 -- ---- preparing
@@ -61,19 +62,19 @@ unfolding step2 step3
 unstep = below.same (λ b. times (step3 Nibble) 4 (bitXor b (step2 Nibble b))) (λ b. b) 16 tt
 
 pub zeros-bytes : Bytes unmoving
-zeros-bytes = listed-bytes (λ k. 0) 16 (λ k. omega arith)
+zeros-bytes = record { at = tab-low Byte (λ k. 0) (λ k. omega arith) 16 0 }
 
 -- a share's cell, by its row and place
 share-at : (c : Cipher) (cells : List ℕ) (i k j : ℕ) → i < 784 → i / 16 ≡ k → i % 16 ≡ j → getD (sharesOf c cells) i 0 ≡ shareCell (widthOf c) (wordsOf c) cells k j
 unfolding sharesOf
 share-at c cells i k j h p q =
-    listed-at (λ i. shareCell (widthOf c) (wordsOf c) cells (i / 16) (i % 16)) 784 i h ∙ ap₂ (shareCell (widthOf c) (wordsOf c) cells) p q
+    table (λ i. shareCell (widthOf c) (wordsOf c) cells (i / 16) (i % 16)) 784 i h ∙ ap₂ (shareCell (widthOf c) (wordsOf c) cells) p q
 
 -- the first row of 128-256 is the key
 first-row : (key : List ℕ) (j : ℕ) → j < 16 → getD (shareOf N128T256 key) j 0 ≡ getD key j 0
 first-row key j h =
     share-at N128T256 (keyCells N128T256 key unmoving) j 0 j (omega arith) (omega arith) (omega arith)
-    ∙ agree-16 (λ m. getD (keyCells N128T256 key unmoving) m 0) (λ m. getD key m 0) refl j h
+    ∙ agree (λ m. getD (keyCells N128T256 key unmoving) m 0) (λ m. getD key m 0) 16 refl j h
 
 small : (x : ℕ) → x < 256 → x % 256 ≡ x
 small x l = omega arith
@@ -103,23 +104,23 @@ module _ (key : List ℕ) (b : Block 16 key) where
   word-1 : (j : ℕ) → j < 16 → first S j ≡ getD K j 0
   word-1 j h = ap₂ bitXor (row-0 j h) (word-2 j h) ∙ xor-last (getD K j 0) (getD K (16 + j) 0)
 
-  rejoined : joined (listed (λ j. getD K j 0) 0 16 ++ listed (λ j. getD K (16 + j) 0) 0 16) ≡ key
+  rejoined : joined (tab (λ (j : ℕ). getD K j 0) 0 16 ++ tab (λ (j : ℕ). getD K (16 + j) 0) 0 16) ≡ key
   unfolding joined
-  rejoined = simp (split-join, b .bytes .at) (listed-own key 16 (b .long))
+  rejoined = simp (split-join, b .bytes .at) (spelled-all key 16 (b .long))
 
   back-64-192 : keyIn N64T192 S ≡ key
   unfolding keyIn wordsIn
   back-64-192 =
       ap joined
-      (ap₂ _++_ (listed-same (first S) (λ j. getD K j 0) 16 word-1) (listed-same (second S) (λ j. getD K (16 + j) 0) 16 word-2))
+      (ap₂ _++_ (tab-same (first S) (λ j. getD K j 0) 16 0 word-1) (tab-same (second S) (λ j. getD K (16 + j) 0) 16 0 word-2))
       ∙ rejoined
 
   back-128-256 : keyIn N128T256 (shareOf N128T256 key) ≡ key
   unfolding keyIn
   back-128-256 =
-      listed-same (λ j. getD (shareOf N128T256 key) j 0 % 256) (λ j. getD key j 0) 16
+      tab-same (λ j. getD (shareOf N128T256 key) j 0 % 256) (λ j. getD key j 0) 16 0
       (λ j h. ap (λ (x : ℕ). x % 256) (first-row key j h) ∙ small (getD key j 0) (b .bytes .at j))
-      ∙ listed-own key 16 (b .long)
+      ∙ spelled-all key 16 (b .long)
 
 pub key-back : (c : Cipher) (key : List ℕ) → Block 16 key → keyIn c (shareOf c key) ≡ key
 key-back N64T192 key b = back-64-192 key b
@@ -129,12 +130,12 @@ key-back N128T256 key b = back-128-256 key b
 pub key-block : (c : Cipher) (share : List ℕ) → Block 16 (keyIn c share)
 unfolding keyIn joined
 key-block N64T192 s = record {
-  long = listed-long (λ i. getD (wordsIn s) (2 * i) 0 % 16 * 16 + getD (wordsIn s) (2 * i + 1) 0 % 16) 16 0;
-  bytes = listed-bytes (λ i. getD (wordsIn s) (2 * i) 0 % 16 * 16 + getD (wordsIn s) (2 * i + 1) 0 % 16) 16 (λ k. omega arith);
+  long = tab-long (λ i. getD (wordsIn s) (2 * i) 0 % 16 * 16 + getD (wordsIn s) (2 * i + 1) 0 % 16) 16 0;
+  bytes = record { at = tab-low Byte (λ i. getD (wordsIn s) (2 * i) 0 % 16 * 16 + getD (wordsIn s) (2 * i + 1) 0 % 16) (λ k. omega arith) 16 0 };
 }
 key-block N128T256 s = record {
-  long = listed-long (λ j. getD s j 0 % 256) 16 0;
-  bytes = listed-bytes (λ j. getD s j 0 % 256) 16 (λ k. omega arith);
+  long = tab-long (λ j. getD s j 0 % 256) 16 0;
+  bytes = record { at = tab-low Byte (λ j. getD s j 0 % 256) (λ k. omega arith) 16 0 };
 }
 
 -- ---- the share that a key gives, judged by its first rows and by how it repeats
@@ -169,7 +170,7 @@ begins s b e =
     let l : length (take 16 s) ≡ 16 = length-take-le 16 s (omega arith) in
     ext-getD 0 (take 16 s) (take 16 S) (l ∙ sym (length-take-le 16 S (omega (arith, shares-long N128T256 (keyCells N128T256 (keyIn N128T256 s) unmoving)))))
     (λ j h. let q : j < 16 = omega (arith, l) in
-    getD-take 16 s j 0 q ∙ sym (small (getD s j 0) (b .at j)) ∙ sym (listed-at (λ j. getD s j 0 % 256) 16 j q) ∙ sym (first-row (keyIn N128T256 s) j q)
+    getD-take 16 s j 0 q ∙ sym (small (getD s j 0) (b .at j)) ∙ sym (table (λ j. getD s j 0 % 256) 16 j q) ∙ sym (first-row (keyIn N128T256 s) j q)
     ∙ sym (getD-take 16 S j 0 q))
 
 -- fifteen rows laid in a room

@@ -8,13 +8,14 @@ use lib.Bits.{bitXor}
 use lib.ListN.{length, getD, set, take, drop, replicate, length-set, length-replicate}
 use lib.Seq.{getD-set-same, getD-set-other, ext-getD}
 use Rattle.cells.specs.Cells.{Nibble, Three, step2}
+use Rattle.cells.specs.Tabs.{tab}
+use Rattle.cells.proofs.Tabs.{table, tab-long, agree}
 use Rattle.schedule.specs.Sixteen.{times}
 use Rattle.schedule.specs.Share.{shareCell}
 use Rattle.ciphers.specs.declared.Cipher.{Cipher}
 use Rattle.ciphers.specs.Ciphers.{widthOf, wordsOf}
 use Rattle.blocks.proofs.Over.{Laid, laid-none, laid-more, laid-all}
-use Rattle.prepared.specs.Prepared.{sharesOf, listed, first, second, wordsIn, joined}
-use Rattle.prepared.proofs.Listed.{listed-at, listed-long}
+use Rattle.prepared.specs.Prepared.{sharesOf, first, second, wordsIn, joined}
 
 -- ---- a share, over the cipher
 
@@ -25,14 +26,14 @@ pub record SharesLaid (c : Cipher) (t d : List ℕ) (i : ℕ) (share : List ℕ)
 
 pub shares-long : (c : Cipher) (t : List ℕ) → length (sharesOf c t) ≡ 784
 unfolding sharesOf
-shares-long c t = listed-long (λ i. shareCell (widthOf c) (wordsOf c) t (i / 16) (i % 16)) 784 0
+shares-long c t = tab-long (λ i. shareCell (widthOf c) (wordsOf c) t (i / 16) (i % 16)) 784 0
 
 pub shares-at : (c : Cipher) (t : List ℕ) (k j : ℕ) → k < 49 → j < 16 → getD (sharesOf c t) (16 * k + j) 0 ≡ shareCell (widthOf c) (wordsOf c) t k j
 unfolding sharesOf
 shares-at c t k j p q =
     let row : (16 * k + j) / 16 ≡ k = omega arith in
     let place : (16 * k + j) % 16 ≡ j = omega arith in
-    listed-at (λ i. shareCell (widthOf c) (wordsOf c) t (i / 16) (i % 16)) 784 (16 * k + j) (omega arith)
+    table (λ i. shareCell (widthOf c) (wordsOf c) t (i / 16) (i % 16)) 784 (16 * k + j) (omega arith)
     ∙ ap₂ (shareCell (widthOf c) (wordsOf c) t) row place
 
 pub shares-none : (c : Cipher) (t d : List ℕ) → length d ≡ 784 → SharesLaid c t d (16 * 0 + 0) d
@@ -124,22 +125,18 @@ words-more {s} {words} {j} b w h e = record {
   a : ℕ
   a = bitXor (getD s j 0) b
 
--- what antt computes at each of sixteen places
-pub agree-16 : (f g : ℕ → ℕ) → listed f 0 16 ≡ listed g 0 16 → (j : ℕ) → j < 16 → f j ≡ g j
-agree-16 f g e j h = sym (listed-at f 16 j h) ∙ ap (λ (l : List ℕ). getD l j 0) e ∙ listed-at g 16 j h
-
 -- sixteen places of two lists, one after the other
 pub ext-32 : (f g : ℕ → ℕ) (l : List ℕ) → length l ≡ 32 → ((j : ℕ) → j < 16 → getD l j 0 ≡ f j) → ((j : ℕ) → j < 16 → getD l (16 + j) 0 ≡ g j)
-    → l ≡ listed f 0 16 ++ listed g 0 16
-ext-32 f g l e p q = ext-getD 0 l (listed f 0 16 ++ listed g 0 16) e (λ i h. elim (decLt i 16) [
+    → l ≡ tab f 0 16 ++ tab g 0 16
+ext-32 f g l e p q = ext-getD 0 l (tab f 0 16 ++ tab g 0 16) e (λ i h. elim (decLt i 16) [
   | yes a ↦ p i a ∙ sym (at-one i a)
-  | no a ↦ subst (λ (m : ℕ). getD l m 0 ≡ getD (listed f 0 16 ++ listed g 0 16) m 0) (omega arith) (q (i - 16) (omega (arith, e)) ∙ sym (at-two (i - 16) (omega (arith, e))))
+  | no a ↦ subst (λ (m : ℕ). getD l m 0 ≡ getD (tab f 0 16 ++ tab g 0 16) m 0) (omega arith) (q (i - 16) (omega (arith, e)) ∙ sym (at-two (i - 16) (omega (arith, e))))
 ]) where
-  at-one : (j : ℕ) → j < 16 → getD (listed f 0 16 ++ listed g 0 16) j 0 ≡ f j
-  at-one j h = agree-16 (λ m. getD (listed f 0 16 ++ listed g 0 16) m 0) f refl j h
+  at-one : (j : ℕ) → j < 16 → getD (tab f 0 16 ++ tab g 0 16) j 0 ≡ f j
+  at-one j h = agree (λ m. getD (tab f 0 16 ++ tab g 0 16) m 0) f 16 refl j h
 
-  at-two : (j : ℕ) → j < 16 → getD (listed f 0 16 ++ listed g 0 16) (16 + j) 0 ≡ g j
-  at-two j h = agree-16 (λ m. getD (listed f 0 16 ++ listed g 0 16) (16 + m) 0) g refl j h
+  at-two : (j : ℕ) → j < 16 → getD (tab f 0 16 ++ tab g 0 16) (16 + j) 0 ≡ g j
+  at-two j h = agree (λ m. getD (tab f 0 16 ++ tab g 0 16) (16 + m) 0) g 16 refl j h
 
 pub words-all : {s words : List ℕ} {j : ℕ} → Words s j words → 16 ≤ j → words ≡ wordsIn s
 unfolding wordsIn
@@ -149,8 +146,8 @@ words-all {s} {words} {j} w h = ext-32 (first s) (second s) words (w .long) (λ 
 
 pub joined-long : (l : List ℕ) → length (joined l) ≡ 16
 unfolding joined
-joined-long l = listed-long (λ i. getD l (2 * i) 0 % 16 * 16 + getD l (2 * i + 1) 0 % 16) 16 0
+joined-long l = tab-long (λ i. getD l (2 * i) 0 % 16 * 16 + getD l (2 * i + 1) 0 % 16) 16 0
 
 pub joined-at : (l : List ℕ) (i : ℕ) → i < 16 → getD (joined l) i 0 ≡ getD l (2 * i) 0 % 16 * 16 + getD l (2 * i + 1) 0 % 16
 unfolding joined
-joined-at l i h = listed-at (λ i. getD l (2 * i) 0 % 16 * 16 + getD l (2 * i + 1) 0 % 16) 16 i h
+joined-at l i h = table (λ i. getD l (2 * i) 0 % 16 * 16 + getD l (2 * i + 1) 0 % 16) 16 i h

@@ -2,12 +2,13 @@
 -- Assumes nothing.
 use mathlib.Core.Path.{_≡_}
 use mathlib.Core.Bool.{Bool, cond, _&&_}
-use mathlib.Core.List.{List, [], _∷_, _++_}
-use Prim.Native.Nat.{ℕ, zero, suc, _+_, _*_, _/_, _%_}
+use mathlib.Core.List.{List, [], _++_}
+use Prim.Native.Nat.{ℕ, _+_, _*_, _/_, _%_}
 use lib.Bits.{bitXor}
 use lib.Dec.{eqb}
 use lib.ListN.{length, getD, replicate}
 use Rattle.cells.specs.Cells.{Block, Nibble, step3}
+use Rattle.cells.specs.Tabs.{tab}
 use Rattle.schedule.specs.Sixteen.{times}
 use Rattle.schedule.specs.Share.{shareCell}
 use Rattle.ciphers.specs.declared.Cipher.{Cipher}
@@ -16,11 +17,6 @@ use Rattle.ciphers.specs.Ciphers.{widthOf, wordsOf, keyCells, numberOf, underCi
 use Rattle.modes.specs.Blocks.{same}
 use Rattle.prepared.specs.declared.Prepared.{Prepared}
 use Rattle.prepared.specs.declared.Preparation.{Preparation}
-
--- the values of f at i and the n - 1 numbers after it
-abbrev pub listed : (ℕ → ℕ) → ℕ → ℕ → List ℕ
-listed f i zero = []
-listed f i (suc n) = f i ∷ listed f (suc i) n
 
 -- ---- what preparing makes of a key
 
@@ -31,7 +27,7 @@ unmoving = replicate 16 0
 -- 49 rows of sixteen cells, one after the other: the key's share of every round, of which each two rounds take one row; 49 serve the 87 rounds of
 -- the longest cipher
 unfoldable pub sharesOf : Cipher → (cells : List ℕ) → List ℕ
-sharesOf c cells = listed (λ i. shareCell (widthOf c) (wordsOf c) cells (i / 16) (i % 16)) 0 784
+sharesOf c cells = tab (λ i. shareCell (widthOf c) (wordsOf c) cells (i / 16) (i % 16)) 0 784
 
 abbrev pub shareOf : Cipher → (key : List ℕ) → List ℕ
 shareOf c key = sharesOf c (keyCells c key unmoving)
@@ -72,15 +68,15 @@ abbrev pub first : List ℕ → ℕ → ℕ
 first s j = bitXor (getD s j 0) (second s j)
 
 unfoldable pub wordsIn : List ℕ → List ℕ
-wordsIn s = listed (first s) 0 16 ++ listed (second s) 0 16
+wordsIn s = tab (first s) 0 16 ++ tab (second s) 0 16
 
 -- nibbles as bytes, two each, the high one first
 unfoldable pub joined : List ℕ → List ℕ
-joined l = listed (λ i. getD l (2 * i) 0 % 16 * 16 + getD l (2 * i + 1) 0 % 16) 0 16
+joined l = tab (λ i. getD l (2 * i) 0 % 16 * 16 + getD l (2 * i + 1) 0 % 16) 0 16
 
 unfoldable pub keyIn : Cipher → (share : List ℕ) → List ℕ
 keyIn N64T192 s = joined (wordsIn s)
-keyIn N128T256 s = listed (λ j. getD s j 0 % 256) 0 16
+keyIn N128T256 s = tab (λ j. getD s j 0 % 256) 0 16
 
 -- a share that some key gives
 abbrev pub Made : Cipher → (share : List ℕ) → Type 0

@@ -9,8 +9,9 @@ use lib.Bits.{bitXor, xor-zero-r}
 use lib.ListN.{getD, set}
 use lib.Seq.{set-getD}
 use Rattle.cells.specs.Cells.{Width, Byte, Words, Two, Three, size, LowCells, step2}
-use Rattle.cells.proofs.Below.{tab}
+use Rattle.cells.specs.Tabs.{tab}
 use Rattle.cells.proofs.Laws.{xor-low}
+use Rattle.cells.proofs.Tabs.{tab-same}
 use Rattle.cells.proofs.Xor.{xor-assoc, xor-first}
 use Rattle.constants.specs.Constants.{constant, constantRow}
 use Rattle.schedule.specs.declared.Tweakey.{Tweakey}
@@ -22,7 +23,7 @@ use Rattle.schedule.proofs.Linear.{times-xor}
 use Rattle.schedule.proofs.Low.{advance-low}
 use Rattle.schedule.proofs.Places.{advance-add}
 use Rattle.schedule.proofs.Share.{times-add, sum-none, sum-parts, share-standing, word-standing}
-use Rattle.schedule.proofs.Sixteen.{sixteen, tab-same, below-8, sumRow, first-sums, second-sums}
+use Rattle.schedule.proofs.Sixteen.{sixteen, below-8, sumRow, first-sums, second-sums}
 
 -- ---- the changed cells
 

@@ -5,8 +5,8 @@ use native.Mathlib.Omega.{arith}
 use lib.ListN.{getD, set}
 use lib.Bits.{bitXor}
 use Rattle.cells.specs.Cells.{Width, Words, Two, Three, size, step2, step3, LowCells}
-use Rattle.cells.proofs.Below.{tab}
 use Rattle.cells.proofs.Laws.{step2-law, step3-law, xor-low, small-low}
+use Rattle.cells.proofs.Tabs.{tab-low}
 use Rattle.schedule.specs.declared.Tweakey.{Tweakey}
 use Rattle.constants.specs.Constants.{constant, constantRow}
 use Rattle.schedule.specs.Schedule.{keyCell, roundKey, xorRow, permutedWords, stepped, nextCells, advance}
@@ -17,12 +17,6 @@ unfolding constant
 constant-low q = omega arith
 
 module _ (w : Width) where
-  -- a list of m values of f, as the permuted words and a round's key are
-  pub tab-low : (f : ℕ → ℕ) → ((k : ℕ) → f k < size w) → (m i : ℕ) → LowCells w (tab f i m)
-  tab-low f h zero i k = small-low w 0 (omega arith)
-  tab-low f h (suc m) i zero = h i
-  tab-low f h (suc m) i (suc k) = tab-low f h m (suc i) k
-
   set-low : (t : List ℕ) (i v : ℕ) → v < size w → LowCells w t → LowCells w (set t i v)
   set-low [] i v p h k = h k
   set-low (x ∷ t) zero v p h zero = p
@@ -36,8 +30,8 @@ module _ (w : Width) where
   stepped-low f hf o (suc m) t h = let l = stepped-low f hf o m t h in set-low (stepped f o m t) (o + m) _ (hf _ (l (o + m))) l
 
   permuted-low : (n : Words) (t : List ℕ) → LowCells w t → LowCells w (permutedWords n t)
-  permuted-low Two t h = tab-low _ (λ j. h (origin Two j)) 48 0
-  permuted-low Three t h = tab-low _ (λ j. h (origin Three j)) 48 0
+  permuted-low Two t h = tab-low w _ (λ j. h (origin Two j)) 48 0
+  permuted-low Three t h = tab-low w _ (λ j. h (origin Three j)) 48 0
 
   cell-low : (n : Words) (t : List ℕ) → LowCells w t → (k : ℕ) → keyCell n t k < size w
   cell-low Two t h k = xor-low w _ _ (h k) (h (16 + k))
@@ -56,11 +50,11 @@ module _ (w : Width) where
 
   pub key-low : (n : Words) (t : List ℕ) → LowCells w t → LowCells w (roundKey n t)
   unfolding roundKey
-  key-low n t h = tab-low (keyCell n t) (cell-low n t h) 8 0
+  key-low n t h = tab-low w (keyCell n t) (cell-low n t h) 8 0
 
   -- what a round adds, constant and key
   pub row-low : (k : ℕ) (r : List ℕ) → k < 128 → LowCells w r → LowCells w (xorRow (constantRow k) r)
-  row-low k r h l = tab-low (λ j. bitXor (getD (constantRow k) j 0) (getD r j 0)) (λ j. xor-low w _ _ (parts j) (l j)) 8 0 where
+  row-low k r h l = tab-low w (λ j. bitXor (getD (constantRow k) j 0) (getD r j 0)) (λ j. xor-low w _ _ (parts j) (l j)) 8 0 where
     zeros : (j : ℕ) → getD (0 ∷ 0 ∷ 0 ∷ []) j 0 < size w
     zeros zero = small-low w 0 (omega arith)
     zeros (suc zero) = small-low w 0 (omega arith)

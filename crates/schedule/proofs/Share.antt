@@ -8,23 +8,19 @@ use native.Mathlib.Omega.{arith}
 use lib.Bits.{bitXor}
 use lib.ListN.{getD}
 use Rattle.cells.specs.Cells.{Width, Words, Two, Three, step2}
-use Rattle.cells.proofs.Below.{tab, table}
+use Rattle.cells.proofs.Tabs.{tab-same, agree}
 use Rattle.schedule.specs.declared.Tweakey.{Tweakey}
 use Rattle.schedule.specs.declared.Moving.{Moving}
 use Rattle.schedule.specs.Schedule.{keyCell, keyRow, xorRow, advance}
 use Rattle.schedule.specs.Sixteen.{times, standing}
 use Rattle.schedule.specs.Share.{shareCell, tweakAt, tweakStep, Parts, Summed, Along}
 use Rattle.schedule.proofs.Places.{advance-at}
-use Rattle.schedule.proofs.Sixteen.{Sums, sixteen, tab-same}
+use Rattle.schedule.proofs.Sixteen.{Sums, sixteen}
 
 -- so many steps after so many
 pub times-add : (f : ℕ → ℕ) (a b x : ℕ) → times f a (times f b x) ≡ times f (a + b) x
 times-add f zero b x = ap (λ (m : ℕ). times f m x) (sym (zero-add b))
 times-add f (suc a) b x = ap f (times-add f a b x) ∙ ap (λ (m : ℕ). times f m x) (sym (suc-add a b))
-
--- what antt computes at each of sixteen places
-agree : (f g : ℕ → ℕ) → tab f 0 16 ≡ tab g 0 16 → (j : ℕ) → j < 16 → f j ≡ g j
-agree f g e j h = sym (table f 16 j h) ∙ ap (λ (r : List ℕ). getD r j 0) e ∙ table g 16 j h
 
 -- before a step
 pub sum-none : (w : Width) (n : Words) (t : List ℕ) (j : ℕ) → bitXor (shareCell w n t 0 j) (getD t (tweakAt n + j) 0) ≡ keyCell n t j
@@ -37,22 +33,22 @@ module _ (w : Width) where
       : (n : Words) (t : List ℕ) (k j : ℕ) → j < 16
       → keyCell n (standing w n k t) j ≡ bitXor (shareCell w n t k j) (times (tweakStep w n) k (getD t (tweakAt n + j) 0))
   unfolding standing
-  sum-parts Two t k = agree _ _ refl
-  sum-parts Three t k = agree _ _ refl
+  sum-parts Two t k = agree _ _ 16 refl
+  sum-parts Three t k = agree _ _ 16 refl
 
   -- both parts of cells that were stepped before
   pub share-standing : (n : Words) (t : List ℕ) (k j : ℕ) → j < 16 → shareCell w n (standing w n 8 t) k j ≡ shareCell w n t (k + 8) j
   unfolding standing
-  share-standing Two t k j h = agree (shareCell w Two (standing w Two 8 t) k) (shareCell w Two t (k + 8)) refl j h
+  share-standing Two t k j h = agree (shareCell w Two (standing w Two 8 t) k) (shareCell w Two t (k + 8)) 16 refl j h
   share-standing Three t k j h =
-      agree (shareCell w Three (standing w Three 8 t) k) (λ i. bitXor (getD t i 0) (times (step2 w) k (times (step2 w) 8 (getD t (16 + i) 0)))) refl j h
+      agree (shareCell w Three (standing w Three 8 t) k) (λ i. bitXor (getD t i 0) (times (step2 w) k (times (step2 w) 8 (getD t (16 + i) 0)))) 16 refl j h
       ∙ ap (bitXor (getD t j 0)) (times-add (step2 w) k 8 (getD t (16 + j) 0))
 
   pub word-standing
       : (n : Words) (t : List ℕ) (j : ℕ) → j < 16 → getD (standing w n 8 t) (tweakAt n + j) 0 ≡ times (tweakStep w n) 8 (getD t (tweakAt n + j) 0)
   unfolding standing
-  word-standing Two t = agree _ _ refl
-  word-standing Three t = agree _ _ refl
+  word-standing Two t = agree _ _ 16 refl
+  word-standing Three t = agree _ _ 16 refl
 
 -- the first round's key
 pub first-row : {w : Width} {n : Words} {t : Tweakey} {share tweak : List ℕ} → Parts w n t share tweak → xorRow share tweak ≡ keyRow n (t .cells)

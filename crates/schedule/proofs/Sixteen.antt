@@ -3,7 +3,7 @@
 -- of the words' sums, moved. Assumes nothing.
 use mathlib.Core.Path.{_≡_, refl, sym, ap, _∙_, subst⁻¹}
 use Prim.Native.Nat.{ℕ, zero, suc, _+_, _*_, _<_}
-use mathlib.Core.List.{List, [], _∷_}
+use mathlib.Core.List.{List, []}
 use native.Mathlib.Numerals.{add-one}
 use native.Mathlib.Omega.{arith}
 use borrow.Author.Count.{below-none, below-more}
@@ -11,7 +11,8 @@ use lib.Bits.{bitXor}
 use lib.ListN.{length, getD}
 use lib.Seq.{ext-getD}
 use Rattle.cells.specs.Cells.{Width, Words, Two, Three}
-use Rattle.cells.proofs.Below.{tab, table}
+use Rattle.cells.specs.Tabs.{tab}
+use Rattle.cells.proofs.Tabs.{table, tab-same}
 use Rattle.schedule.specs.declared.Tweakey.{Tweakey}
 use Rattle.schedule.specs.Schedule.{keyCell, roundKey, stepped, nextCells, advance}
 use Rattle.schedule.specs.Sixteen.{standing, movedOnce, moved, upper, lower}
@@ -45,11 +46,6 @@ module _ (w : Width) where
 -- row k has the sixteen cells of every word, xored, after k + 1 steps
 pub record Sums (w : Width) (n : Words) (t : List ℕ) (sums : List (List ℕ)) : Type 0 where
   pub at : (k j : ℕ) → k < 8 → j < 16 → getD (getD sums k []) j 0 ≡ keyCell n (standing w n (suc k) t) j
-
--- two functions with the same values have the same table
-pub tab-same : (f g : ℕ → ℕ) (n i : ℕ) → ((j : ℕ) → j < i + n → f j ≡ g j) → tab f i n ≡ tab g i n
-tab-same f g zero i e = refl
-tab-same f g (suc n) i e = λ k. e i (omega arith) k ∷ tab-same f g n (suc i) (λ j h. e j (omega arith)) k
 
 -- where a move takes a cell from
 abbrev place : ℕ → ℕ

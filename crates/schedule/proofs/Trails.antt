@@ -5,7 +5,9 @@ use mathlib.Core.List.{List}
 use lib.Dec.{T, ltb, ltb→lt}
 use lib.ListN.{getD}
 use Rattle.cells.specs.Cells.{Width, Words, Two, Three, step2, step3}
-use Rattle.cells.proofs.Below.{every, below, tab, table}
+use Rattle.cells.specs.Tabs.{tab}
+use Rattle.cells.proofs.Below.{every, below}
+use Rattle.cells.proofs.Tabs.{table}
 use Rattle.schedule.specs.declared.Tweakey.{Tweakey}
 use Rattle.schedule.specs.Schedule.{permutedWords, stepped, nextCells, advance}
 

@@ -1,6 +1,6 @@
 -- `cells::byte_table` meets its contract: one computed test of the table against the rule. Assumes nothing.
 use Rattle.cells.specs.Cells.{Byte, sub, sub8, flips, shuffle, swap}
-use Rattle.cells.proofs.Below.{table}
+use Rattle.cells.proofs.Tabs.{table}
 use Rattle.cells.proofs.byte_table.Statement.{statement}
 use Rattle.cells.proofs.byte_table.Tie as tie
 

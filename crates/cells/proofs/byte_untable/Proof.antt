@@ -1,6 +1,6 @@
 -- `cells::byte_untable` meets its contract: one computed test of the table against the rule. Assumes nothing.
 use Rattle.cells.specs.Cells.{Byte, unsub, unsub8, flips, unshuffle, swap}
-use Rattle.cells.proofs.Below.{table}
+use Rattle.cells.proofs.Tabs.{table}
 use Rattle.cells.proofs.byte_untable.Statement.{statement}
 use Rattle.cells.proofs.byte_untable.Tie as tie
 

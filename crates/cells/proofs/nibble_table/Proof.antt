@@ -1,6 +1,6 @@
 -- `cells::nibble_table` meets its contract: one computed test of the table against the rule. Assumes nothing.
 use Rattle.cells.specs.Cells.{Nibble, sub}
-use Rattle.cells.proofs.Below.{table}
+use Rattle.cells.proofs.Tabs.{table}
 use Rattle.cells.proofs.nibble_table.Statement.{statement}
 use Rattle.cells.proofs.nibble_table.Tie as tie
 

@@ -1,6 +1,6 @@
 -- `cells::nibble_untable` meets its contract: one computed test of the table against the rule. Assumes nothing.
 use Rattle.cells.specs.Cells.{Nibble, unsub}
-use Rattle.cells.proofs.Below.{table}
+use Rattle.cells.proofs.Tabs.{table}
 use Rattle.cells.proofs.nibble_untable.Statement.{statement}
 use Rattle.cells.proofs.nibble_untable.Tie as tie
 

@@ -4,7 +4,8 @@ use mathlib.Core.Path.{refl, _∙_}
 use mathlib.Core.List.{List, []}
 use Prim.Native.Nat.{ℕ}
 use lib.ListN.{replicate, List·getD-append}
-use Rattle.cells.proofs.Below.{tab, tab-at}
+use Rattle.cells.specs.Tabs.{tab}
+use Rattle.cells.proofs.Tabs.{tab-at}
 use Rattle.constants.specs.Constants.{constant, constantRow}
 use Rattle.constants.proofs.room.Statement.{statement}
 use Rattle.constants.proofs.room.Tie as tie
