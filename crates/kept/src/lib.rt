@@ -80,7 +80,7 @@ pub fn turn_to(
         }
     }
     if rounds == 0 {
-        return lay(c, share, keys, tweak, m);
+        return lay(c, share, keys, tweak, m); // the room has the constants
     }
     *keys = constants::room();
     lay(c, share, keys, tweak, m)

@@ -4,7 +4,6 @@ use blocks::load;
 use ciphers::Cipher;
 use steps::Kind;
 use steps::State;
-ghost use mathlib.Core.Path.{_≡_};
 ghost use Prim.Native.Nat.{_≤_};
 ghost use lib.ListN.{length};
 ghost use Rattle.constants.specs.Constants.{Room};

@@ -7,7 +7,6 @@ use Rattle.schedule.specs.declared.Tweakey.{Tweakey}
 use Rattle.schedule.specs.Schedule.{RoundKeys}
 use Rattle.schedule.specs.Share.{Parts}
 use Rattle.ciphers.specs.declared.Cipher.{Cipher}
-use Rattle.ciphers.specs.declared.Cipher.the-variants.{N64T192, N128T256}
 use Rattle.ciphers.specs.Ciphers.{widthOf, wordsOf, tweakCells}
 use borrow.Author.Needs.{needs}
 use Rattle.ciphers.proofs.lay_keys.Statement.{statement}

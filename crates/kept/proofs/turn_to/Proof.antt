@@ -1,5 +1,4 @@
 -- `kept::turn_to` meets its contract: the same tweak again, one with another last byte, or laid anew. Assumes nothing.
-use mathlib.Core.Path.{sym, _∙_}
 use native.Mathlib.Omega.{arith}
 use Rattle.ciphers.proofs.Laws.{block-some, block-most}
 use Rattle.kept.proofs.Changed.{still, corrected}

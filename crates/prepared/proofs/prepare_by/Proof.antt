@@ -1,7 +1,5 @@
 -- `prepared::prepare_by` meets its contract: a key of another length, or the record. Assumes nothing.
-use mathlib.Core.Path.{_∙_, sym, ap}
-use borrow.Author.Tests.{eq-eqb, ne-eqb}
-use native.Mathlib.Omega.{arith}
+use borrow.Author.Tests.{ne-eqb}
 use Rattle.prepared.proofs.Found.{made}
 use borrow.Author.Needs.{needs}
 use Rattle.prepared.proofs.prepare_by.Statement.{statement}

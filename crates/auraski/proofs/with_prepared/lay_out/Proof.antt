@@ -1,10 +1,10 @@
 -- `auraski::with_prepared::lay_out` meets its contract: its loops lay the record from the front. Assumes nothing.
-use mathlib.Core.Path.{_≡_, refl, sym}
+use mathlib.Core.Path.{_≡_}
 use mathlib.Core.List.{List}
 use Prim.Native.Nat.{ℕ, _+_, _-_, _≤_}
 use native.Mathlib.Omega.{arith}
-use lib.ListN.{length, replicate, length-replicate}
-use Rattle.blocks.proofs.Over.{Laid, laid-none, laid-more, laid-all}
+use lib.ListN.{length, replicate}
+use Rattle.blocks.proofs.Over.{Laid}
 use Rattle.auraski.specs.Rooms.{laidOut}
 use Rattle.auraski.proofs.Rooms.{laid-first, laid-share, laid-on, laid-tweak, laid-whole}
 use Rattle.auraski.proofs.with_prepared.lay_out.Statement.{statement}
