@@ -1,5 +1,6 @@
 // The block calls, under the cipher that a number names: by key, and with a prepared one. Refused with 1 (no such cipher, half or choice), and
-// then with 2 (a prepared key that is not one of this cipher's).
+// then with 2 (a prepared key that is not one of this cipher's). Where a prepared key's share is lent, `own` is the number of the cipher that it
+// says it is for, and `moving` its moving part.
 ghost use mathlib.Core.Path.{_≡_};
 ghost use Rattle.prepared.specs.Prepared.{recordOf};
 ghost use Rattle.forkskinny.specs.Calls.{forkRefusedWith, forkBy, forkOf, forkUnder, forkWith, unforkRefusedWith, unforkBy, unforkOf, unforkUnder, unforkWith};

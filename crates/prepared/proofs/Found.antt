@@ -16,10 +16,9 @@ use Rattle.cells.proofs.Below as below
 use Rattle.cells.proofs.Tabs.{table, tab-long, tab-same, tab-low, agree, spelled-all}
 use Rattle.cells.proofs.Xor.{xor-assoc, xor-first, xor-last}
 use Rattle.schedule.specs.Sixteen.{times}
-use Rattle.schedule.specs.Share.{shareCell}
 use Rattle.ciphers.specs.declared.Cipher.{Cipher}
 use Rattle.ciphers.specs.declared.Cipher.the-variants.{N64T192, N128T256}
-use Rattle.ciphers.specs.Ciphers.{widthOf, wordsOf, keyCells, tk, numberOf}
+use Rattle.ciphers.specs.Ciphers.{keyCells, tk, numberOf}
 use Rattle.ciphers.proofs.Laws.{tk-low, split-join}
 use Rattle.modes.specs.Blocks.{same}
 use Rattle.blocks.proofs.Collected.{or-none}
@@ -27,7 +26,7 @@ use Rattle.blocks.proofs.Parts.{part-rest}
 use Rattle.prepared.specs.declared.Prepared.{Prepared}
 use Rattle.prepared.specs.declared.Preparation.{Preparation}
 use Rattle.prepared.specs.Prepared.{unmoving, sharesOf, shareOf, preparedOf, preparedBy, noRecord, first, second, wordsIn, joined, keyIn, admitted}
-use Rattle.prepared.proofs.Loops.{shares-long}
+use Rattle.prepared.proofs.Loops.{shares-long, share-at, joined-long}
 use Rattle.prepared.proofs.Repeats.{same-if, repeats}
 
 -- ---- preparing
@@ -63,12 +62,6 @@ unstep = below.same (λ b. times (step3 Nibble) 4 (bitXor b (step2 Nibble b))) (
 
 pub zeros-bytes : Bytes unmoving
 zeros-bytes = record { at = tab-low Byte (λ k. 0) (λ k. omega arith) 16 0 }
-
--- a share's cell, by its row and place
-share-at : (c : Cipher) (cells : List ℕ) (i k j : ℕ) → i < 784 → i / 16 ≡ k → i % 16 ≡ j → getD (sharesOf c cells) i 0 ≡ shareCell (widthOf c) (wordsOf c) cells k j
-unfolding sharesOf
-share-at c cells i k j h p q =
-    table (λ i. shareCell (widthOf c) (wordsOf c) cells (i / 16) (i % 16)) 784 i h ∙ ap₂ (shareCell (widthOf c) (wordsOf c) cells) p q
 
 -- the first row of 128-256 is the key
 first-row : (key : List ℕ) (j : ℕ) → j < 16 → getD (shareOf N128T256 key) j 0 ≡ getD key j 0
@@ -130,7 +123,7 @@ key-back N128T256 key b = back-128-256 key b
 pub key-block : (c : Cipher) (share : List ℕ) → Block 16 (keyIn c share)
 unfolding keyIn joined
 key-block N64T192 s = record {
-  long = tab-long (λ i. getD (wordsIn s) (2 * i) 0 % 16 * 16 + getD (wordsIn s) (2 * i + 1) 0 % 16) 16 0;
+  long = joined-long (wordsIn s);
   bytes = record { at = tab-low Byte (λ i. getD (wordsIn s) (2 * i) 0 % 16 * 16 + getD (wordsIn s) (2 * i + 1) 0 % 16) (λ k. omega arith) 16 0 };
 }
 key-block N128T256 s = record {

@@ -28,13 +28,13 @@ pub shares-long : (c : Cipher) (t : List ℕ) → length (sharesOf c t) ≡ 784
 unfolding sharesOf
 shares-long c t = tab-long (λ i. shareCell (widthOf c) (wordsOf c) t (i / 16) (i % 16)) 784 0
 
-pub shares-at : (c : Cipher) (t : List ℕ) (k j : ℕ) → k < 49 → j < 16 → getD (sharesOf c t) (16 * k + j) 0 ≡ shareCell (widthOf c) (wordsOf c) t k j
+-- a share's cell, by its row and place
+pub share-at : (c : Cipher) (t : List ℕ) (i k j : ℕ) → i < 784 → i / 16 ≡ k → i % 16 ≡ j → getD (sharesOf c t) i 0 ≡ shareCell (widthOf c) (wordsOf c) t k j
 unfolding sharesOf
-shares-at c t k j p q =
-    let row : (16 * k + j) / 16 ≡ k = omega arith in
-    let place : (16 * k + j) % 16 ≡ j = omega arith in
-    table (λ i. shareCell (widthOf c) (wordsOf c) t (i / 16) (i % 16)) 784 (16 * k + j) (omega arith)
-    ∙ ap₂ (shareCell (widthOf c) (wordsOf c) t) row place
+share-at c t i k j h p q = table (λ i. shareCell (widthOf c) (wordsOf c) t (i / 16) (i % 16)) 784 i h ∙ ap₂ (shareCell (widthOf c) (wordsOf c) t) p q
+
+pub shares-at : (c : Cipher) (t : List ℕ) (k j : ℕ) → k < 49 → j < 16 → getD (sharesOf c t) (16 * k + j) 0 ≡ shareCell (widthOf c) (wordsOf c) t k j
+shares-at c t k j p q = share-at c t (16 * k + j) k j (omega arith) (omega arith) (omega arith)
 
 pub shares-none : (c : Cipher) (t d : List ℕ) → length d ≡ 784 → SharesLaid c t d (16 * 0 + 0) d
 shares-none c t d l = record { room = l; laid = laid-none (sharesOf c t) d }

@@ -91,6 +91,7 @@ fn seal_of_key(
     seal_under(s, &share, nonce, header, body, room)
 }
 
+// With a prepared key: its share is lent, `own` is the number of the cipher that it says it is for, and `moving` its moving part.
 fn seal_with(
     s: Scheme,
     own: u32,
