@@ -15,7 +15,7 @@ use Rattle.prepared.specs.Prepared.{keyIn, keyOf, admitted}
 use Rattle.prepared.proofs.Found.{key-block}
 use Rattle.prepared.proofs.Admitted.{key-none}
 use Rattle.modes.specs.Mode.{Opened}
-use Rattle.steps.specs.Modes.{roundsOf}
+use Rattle.states.specs.Modes.{roundsOf}
 use Rattle.walks.specs.Walks.{RecordSealed, RecordOpened}
 use Rattle.sealing.specs.declared.schemes.Scheme.{Scheme}
 use Rattle.sealing.specs.Schemes.{Fits}

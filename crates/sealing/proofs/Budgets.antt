@@ -9,7 +9,7 @@ use mathlib.Core.List.{List}
 use lib.Dec.{eqb}
 use lib.ListN.{length}
 use borrow.Author.Tests.{eqb-false}
-use Rattle.steps.specs.Modes.{roundsOf}
+use Rattle.states.specs.Modes.{roundsOf}
 use Rattle.walks.proofs.Counted.{rounds-fit}
 use Rattle.sealing.specs.declared.schemes.Scheme.{Scheme}
 use Rattle.sealing.specs.declared.schemes.Named.{Named}

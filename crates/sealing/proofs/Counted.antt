@@ -9,7 +9,7 @@ use lib.ListN.{length}
 use borrow.Author.Tests.{ltb-false}
 use Rattle.cells.proofs.Choice.{either}
 use Rattle.ciphers.specs.Ciphers.{blockOf}
-use Rattle.steps.specs.Modes.{roundsOf}
+use Rattle.states.specs.Modes.{roundsOf}
 use Rattle.sealing.specs.declared.schemes.Scheme.{Scheme}
 use Rattle.sealing.specs.declared.schemes.Named.the-variants.{Known}
 use Rattle.sealing.specs.Schemes.{schemeOf}

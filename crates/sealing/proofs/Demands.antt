@@ -19,7 +19,7 @@ use Rattle.modes.specs.Paef.{paef}
 use Rattle.modes.specs.Saef.{saef}
 use Rattle.modes.specs.Tweaks.{paefTweaks, Distinct}
 use Rattle.modes.proofs.PaefTweaks.{paef-distinct}
-use Rattle.steps.specs.Skinny.{skinny}
+use Rattle.states.specs.Skinny.{skinny}
 use Rattle.sealing.specs.declared.Answer.{Answer}
 use Rattle.sealing.specs.declared.schemes.Scheme.{Scheme}
 use Rattle.sealing.specs.declared.schemes.Named.the-variants.{Known}

@@ -16,11 +16,11 @@ use Rattle.modes.specs.Lawful.{Lawful}
 use Rattle.modes.proofs.Exact.{seal-run-block, seal-open, exact, unique, refused-iff}
 use Rattle.modes.proofs.PaefLaws.{SumOk, paef-lawful}
 use Rattle.modes.proofs.SaefLaws.{MaskOk, saef-lawful}
-use Rattle.steps.specs.declared.Kind.{Kind}
-use Rattle.steps.specs.declared.Kind.the-variants.{Paef, Saef}
-use Rattle.steps.specs.Modes.{Carried, modeOf, tailOf, roundsOf}
-use Rattle.steps.specs.Skinny.{skinny}
-use Rattle.steps.proofs.Laws.{skinny-laws}
+use Rattle.states.specs.declared.Kind.{Kind}
+use Rattle.states.specs.declared.Kind.the-variants.{Paef, Saef}
+use Rattle.states.specs.Modes.{Carried, modeOf, tailOf, roundsOf}
+use Rattle.states.specs.Skinny.{skinny}
+use Rattle.states.proofs.Laws.{skinny-laws}
 use Rattle.sealing.specs.declared.schemes.Scheme.{Scheme}
 use Rattle.sealing.specs.Calls.{Told, done, forged, judged, sealed, opened, sealRounds, openRounds, sealOf, openOf}
 use Rattle.sealing.specs.Demands.{Admitted, SealsTo}

@@ -13,8 +13,8 @@ use Rattle.forkskinny.specs.Calls.{wants, forkRounds, forkOf, unforkRounds, unf
 use Rattle.modes.specs.Blocks.{beforeLast}
 use Rattle.modes.specs.Rounds.{sealCalls, openCalls, total, blocks, headBlocks, roundsBy}
 use Rattle.modes.proofs.Rounds.{rounds-flat}
-use Rattle.steps.specs.Modes.{modeOf, roundsOf}
-use Rattle.steps.specs.Skinny.{costOf}
+use Rattle.states.specs.Modes.{modeOf, roundsOf}
+use Rattle.states.specs.Skinny.{costOf}
 use Rattle.sealing.specs.declared.Budget.{Budget}
 use Rattle.sealing.specs.declared.schemes.Scheme.{Scheme}
 use Rattle.sealing.specs.declared.schemes.Named.the-variants.{Known}

@@ -10,10 +10,10 @@ use Rattle.ciphers.proofs.Laws.{block-some}
 use Rattle.forkskinny.specs.Calls.{wants, forkRounds, unforkRounds}
 use Rattle.modes.specs.Forkcipher.{bothHalves, bothBack}
 use Rattle.modes.proofs.Rounds.{Priced, seal-total, open-total, paef-priced, saef-priced}
-use Rattle.steps.specs.declared.Kind.{Kind}
-use Rattle.steps.specs.declared.Kind.the-variants.{Paef, Saef}
-use Rattle.steps.specs.Modes.{modeOf, pricesOf, roundsOf}
-use Rattle.steps.specs.Skinny.{skinny, costOf}
+use Rattle.states.specs.declared.Kind.{Kind}
+use Rattle.states.specs.declared.Kind.the-variants.{Paef, Saef}
+use Rattle.states.specs.Modes.{modeOf, pricesOf, roundsOf}
+use Rattle.states.specs.Skinny.{skinny, costOf}
 use Rattle.sealing.specs.declared.schemes.Scheme.{Scheme}
 use Rattle.sealing.specs.Calls.{sealRounds, openRounds}
 

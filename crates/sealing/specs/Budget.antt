@@ -2,7 +2,7 @@
 -- Assumes nothing.
 use Prim.Native.Nat.{ℕ, zero, suc}
 use mathlib.Core.Bool.{false}
-use Rattle.steps.specs.Modes.{roundsOf}
+use Rattle.states.specs.Modes.{roundsOf}
 use Rattle.sealing.specs.declared.Budget.{Budget}
 use Rattle.sealing.specs.declared.schemes.Scheme.{Scheme}
 use Rattle.sealing.specs.declared.schemes.Named.{Named}

@@ -9,8 +9,8 @@ use Rattle.prepared.specs.declared.Prepared.{Prepared}
 use Rattle.prepared.specs.Prepared.{keyOf}
 use Rattle.modes.specs.Mode.{Opened, sealRun, openRun}
 use Rattle.modes.specs.Rounds.{sealCalls, openCalls, total}
-use Rattle.steps.specs.Modes.{modeOf}
-use Rattle.steps.specs.Skinny.{costOf}
+use Rattle.states.specs.Modes.{modeOf}
+use Rattle.states.specs.Skinny.{costOf}
 use Rattle.sealing.specs.declared.Answer.{Answer}
 use Rattle.sealing.specs.declared.schemes.Scheme.{Scheme}
 use Rattle.sealing.specs.declared.schemes.Named.{Named}

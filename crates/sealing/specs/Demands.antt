@@ -6,7 +6,7 @@ use lib.ListN.{length}
 use Rattle.cells.specs.Cells.{Bytes, Block}
 use Rattle.ciphers.specs.Ciphers.{blockOf}
 use Rattle.modes.specs.Mode.{sealRun}
-use Rattle.steps.specs.Modes.{modeOf}
+use Rattle.states.specs.Modes.{modeOf}
 use Rattle.sealing.specs.declared.schemes.Scheme.{Scheme}
 use Rattle.sealing.specs.declared.schemes.Named.the-variants.{Known}
 use Rattle.sealing.specs.Schemes.{schemeOf}

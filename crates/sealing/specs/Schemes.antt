@@ -5,8 +5,8 @@ use Prim.Native.Nat.{ℕ, _+_, _≤_}
 use lib.Dec.{eqb}
 use Rattle.ciphers.specs.declared.Cipher.the-variants.{N64T192, N128T256}
 use Rattle.ciphers.specs.Ciphers.{blockOf}
-use Rattle.steps.specs.declared.Kind.the-variants.{Paef, Saef}
-use Rattle.steps.specs.Modes.{tailOf}
+use Rattle.states.specs.declared.Kind.the-variants.{Paef, Saef}
+use Rattle.states.specs.Modes.{tailOf}
 use Rattle.sealing.specs.declared.schemes.Scheme.{Scheme}
 use Rattle.sealing.specs.declared.schemes.Named.{Named}
 use Rattle.sealing.specs.declared.schemes.Named.the-variants.{Known, Unknown}

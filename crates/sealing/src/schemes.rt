@@ -1,6 +1,6 @@
 // The table of schemes. Nothing else counts them.
 use ciphers::Cipher;
-use steps::Kind;
+use states::Kind;
 ghost use mathlib.Core.Path.{_≡_};
 ghost use Rattle.sealing.specs.Schemes.{schemeOf};
 

@@ -10,10 +10,10 @@ use Rattle.ciphers.specs.Ciphers.{blockOf}
 use Rattle.kept.specs.declared.Kept.{Kept}
 use Rattle.modes.specs.Paef.{paef}
 use Rattle.modes.specs.Saef.{saef}
-use Rattle.steps.specs.declared.Kind.{Kind}
-use Rattle.steps.specs.declared.Kind.the-variants.{Paef, Saef}
-use Rattle.steps.specs.declared.State.{State}
-use Rattle.steps.specs.Modes.{modeOf, stateOf}
+use Rattle.states.specs.declared.Kind.{Kind}
+use Rattle.states.specs.declared.Kind.the-variants.{Paef, Saef}
+use Rattle.states.specs.declared.State.{State}
+use Rattle.states.specs.Modes.{modeOf, stateOf}
 
 pub start-is : (k : Kind) (c : Cipher) (key nonce : List ℕ) (kept : Kept)
     → stateOf k (blockOf c) (record { mask = replicate 16 0; number = 1; first = true; kept = kept }) ≡ modeOf k c key nonce .start

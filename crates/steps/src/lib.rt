@@ -1,59 +1,20 @@
-// The steps of a mode: one block of a header or a body, sealed or opened. Only this crate knows a mode. Blocks are sixteen
-// bytes, of which the cipher's first n count; what stands behind them is never read.
-pub mod paef;
-pub mod saef;
-
+// The steps of a mode: one block of a header or a body, sealed or opened, by the crate that has the mode.
 use ciphers::Cipher;
-use kept::Kept;
+use forkae::paef;
+use forkae::saef;
+use states::Kind;
+use states::Pair;
+use states::Prices;
+use states::State;
+use states::Step;
 ghost use mathlib.Core.Path.{_≡_};
 ghost use Prim.Native.Nat.{_+_, _≤_};
 ghost use lib.ListN.{length, take};
 ghost use Rattle.ciphers.specs.Ciphers.{blockOf};
 ghost use Rattle.prepared.specs.Prepared.{keyIn};
 ghost use Rattle.kept.specs.Kept.{nothing, Lent};
-ghost use Rattle.steps.specs.Modes.{modeOf, tailOf, stateOf, pricesOf};
-ghost use Rattle.steps.specs.Steps.{Stepped, Paired};
-
-// The modes, by name.
-pub enum Kind {
-    Paef,
-    Saef,
-}
-
-// What goes from block to block: S or Delta, the number of the next block (PAEF), whether no block was worked yet (SAEF), and what the room for
-// round keys holds.
-pub struct State {
-    pub mask: [u8; 16],
-    pub number: usize,
-    pub first: bool,
-    pub kept: Kept,
-}
-
-// What a header block leaves: S or Delta, and the round keys.
-pub struct Left {
-    pub mask: [u8; 16],
-    pub kept: Kept,
-}
-
-// A block's output, and what goes on.
-pub struct Step {
-    pub out: [u8; 16],
-    pub next: State,
-}
-
-// Two blocks: of a last block, the one that is given whole, and the one of which leading bytes are given; and the round keys.
-pub struct Pair {
-    pub first: [u8; 16],
-    pub second: [u8; 16],
-    pub kept: Kept,
-}
-
-// The rounds of a header block, of a body block that is not the last, and of the last one.
-pub struct Prices {
-    pub head: u32,
-    pub block: u32,
-    pub last: u32,
-}
+ghost use Rattle.states.specs.Modes.{modeOf, tailOf, stateOf, pricesOf};
+ghost use Rattle.states.specs.Steps.{Stepped, Paired};
 
 // What the blocks of a mode cost, by the halves that they ask for.
 pub fn prices_of(c: Cipher, k: Kind) -> Prices

@@ -5,9 +5,9 @@ use mathlib.Core.List.{List, _++_}
 use Prim.Native.Nat.{ℕ}
 use lib.ListN.{length, drop}
 use Rattle.modes.specs.Mode.{Opened}
-use Rattle.steps.specs.declared.Kind.{Kind}
-use Rattle.steps.specs.declared.State.{State}
-use Rattle.steps.specs.Modes.{Carried}
+use Rattle.states.specs.declared.Kind.{Kind}
+use Rattle.states.specs.declared.State.{State}
+use Rattle.states.specs.Modes.{Carried}
 use Rattle.walks.specs.Walks.{Reached, Put, OpenedTo}
 
 pub reached-as : {k : Kind} {n : ℕ} {t u : Carried k} {most : ℕ} {r : State} → t ≡ u → Reached k n t most r → Reached k n u most r

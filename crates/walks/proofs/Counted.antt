@@ -15,11 +15,11 @@ use Rattle.modes.specs.Blocks.{beforeLast, none}
 use Rattle.modes.specs.Forkcipher.{half0, bothHalves}
 use Rattle.modes.specs.Rounds.{blocks, headBlocks, roundsBy}
 use Rattle.modes.proofs.Rounds.{before-last-few, head-blocks-few, rounds-few}
-use Rattle.steps.specs.declared.Kind.{Kind}
-use Rattle.steps.specs.declared.Kind.the-variants.{Paef, Saef}
-use Rattle.steps.specs.declared.Prices.{Prices}
-use Rattle.steps.specs.Skinny.{costOf}
-use Rattle.steps.specs.Modes.{pricesOf, roundsOf}
+use Rattle.states.specs.declared.Kind.{Kind}
+use Rattle.states.specs.declared.Kind.the-variants.{Paef, Saef}
+use Rattle.states.specs.declared.Prices.{Prices}
+use Rattle.states.specs.Skinny.{costOf}
+use Rattle.states.specs.Modes.{pricesOf, roundsOf}
 
 -- ---- a block has eight bytes at least, and no price is above 128
 

@@ -4,9 +4,9 @@ use mathlib.Core.List.{List, [], _++_}
 use Prim.Native.Nat.{ℕ, _+_, _≤_, _<_}
 use native.Mathlib.Omega.{arith}
 use lib.ListN.{length, take}
-use Rattle.steps.specs.declared.Kind.{Kind}
-use Rattle.steps.specs.declared.State.{State}
-use Rattle.steps.specs.Modes.{Carried, stateOf}
+use Rattle.states.specs.declared.Kind.{Kind}
+use Rattle.states.specs.declared.State.{State}
+use Rattle.states.specs.Modes.{Carried, stateOf}
 use Rattle.walks.specs.Walks.{Turned}
 use Rattle.walks.proofs.Places.{lent, after}
 use Rattle.walks.proofs.Writing.{Writing, writing-none, writing-more}

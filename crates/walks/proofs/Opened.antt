@@ -17,10 +17,10 @@ use Rattle.modes.specs.Blocks.{full, ten, pad, same}
 use Rattle.modes.specs.Mode.{Mode, Opened, before, judge, endTag, endBlock, openLast, openRest}
 use Rattle.modes.proofs.Bytes.{pad-long}
 use Rattle.modes.proofs.Turn.{Opening, open-begin, open-turn, open-end}
-use Rattle.steps.specs.declared.Kind.{Kind}
-use Rattle.steps.specs.declared.State.{State}
-use Rattle.steps.specs.Modes.{Carried, modeOf, stateOf}
-use Rattle.steps.specs.Steps.{Paired}
+use Rattle.states.specs.declared.Kind.{Kind}
+use Rattle.states.specs.declared.State.{State}
+use Rattle.states.specs.Modes.{Carried, modeOf, stateOf}
+use Rattle.states.specs.Steps.{Paired}
 use Rattle.blocks.proofs.Parts.{part-rest}
 use Rattle.walks.specs.Walks.{Ready, Walkable, Openable, OpenTurned, OpenEnded, RunOpened}
 use Rattle.walks.proofs.Answered.{put-as, opened-as}

@@ -15,10 +15,10 @@ use Rattle.kept.proofs.Parts.{none-kept}
 use Rattle.modes.specs.Blocks.{pad}
 use Rattle.modes.specs.Paef.{paef}
 use Rattle.modes.specs.Saef.{saef}
-use Rattle.steps.specs.declared.Kind.{Kind}
-use Rattle.steps.specs.declared.Kind.the-variants.{Paef, Saef}
-use Rattle.steps.specs.declared.State.{State}
-use Rattle.steps.specs.Modes.{modeOf}
+use Rattle.states.specs.declared.Kind.{Kind}
+use Rattle.states.specs.declared.Kind.the-variants.{Paef, Saef}
+use Rattle.states.specs.declared.State.{State}
+use Rattle.states.specs.Modes.{modeOf}
 use Rattle.modes.proofs.Bytes.{pad-long}
 use Rattle.blocks.proofs.Parts.{part-rest}
 use Rattle.walks.specs.Walks.{Ready, Walkable}

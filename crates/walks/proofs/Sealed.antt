@@ -14,10 +14,10 @@ use Rattle.blocks.proofs.Wrote.{Wrote, wrote-first, wrote-more}
 use Rattle.modes.specs.Blocks.{full, pad}
 use Rattle.modes.specs.Mode.{Mode, join, sealLast, sealRest}
 use Rattle.modes.proofs.Turn.{Sealing, seal-begin, seal-turn, seal-end}
-use Rattle.steps.specs.declared.Kind.{Kind}
-use Rattle.steps.specs.declared.State.{State}
-use Rattle.steps.specs.Modes.{Carried, modeOf, stateOf}
-use Rattle.steps.specs.Steps.{Paired}
+use Rattle.states.specs.declared.Kind.{Kind}
+use Rattle.states.specs.declared.State.{State}
+use Rattle.states.specs.Modes.{Carried, modeOf, stateOf}
+use Rattle.states.specs.Steps.{Paired}
 use Rattle.walks.specs.Walks.{SealTurned, SealEnded, BodySealed}
 use Rattle.walks.proofs.Answered.{put-as}
 use Rattle.walks.proofs.Going.{Going, going-none, going-more}

@@ -10,10 +10,10 @@ use Rattle.ciphers.specs.declared.Cipher.{Cipher}
 use Rattle.ciphers.specs.Ciphers.{blockOf}
 use Rattle.ciphers.proofs.Laws.{block-most}
 use Rattle.modes.specs.Blocks.{pad}
-use Rattle.steps.specs.declared.Kind.{Kind}
-use Rattle.steps.specs.declared.State.{State}
-use Rattle.steps.specs.Modes.{Carried, stateOf}
-use Rattle.steps.specs.Steps.{Stepped}
+use Rattle.states.specs.declared.Kind.{Kind}
+use Rattle.states.specs.declared.State.{State}
+use Rattle.states.specs.Modes.{Carried, stateOf}
+use Rattle.states.specs.Steps.{Stepped}
 use Rattle.walks.specs.Walks.{Turned}
 use Rattle.walks.proofs.Answered.{put-as}
 use Rattle.walks.proofs.Places.{loaded-full}

@@ -12,9 +12,9 @@ use Rattle.blocks.proofs.Parts.{part-rest}
 use Rattle.modes.specs.Blocks.{full, pad}
 use Rattle.modes.specs.Mode.{Mode, walk}
 use Rattle.modes.proofs.Turn.{Walking, walk-begin, walk-turn, walk-end}
-use Rattle.steps.specs.declared.Kind.{Kind}
-use Rattle.steps.specs.declared.State.{State}
-use Rattle.steps.specs.Modes.{Carried, modeOf, stateOf}
+use Rattle.states.specs.declared.Kind.{Kind}
+use Rattle.states.specs.declared.State.{State}
+use Rattle.states.specs.Modes.{Carried, modeOf, stateOf}
 use Rattle.walks.specs.Walks.{HeadTurned, HeadEnded, HeadWalked}
 use Rattle.walks.proofs.Answered.{reached-as}
 use Rattle.walks.proofs.Places.{lent}

@@ -9,9 +9,9 @@ use Rattle.ciphers.specs.Ciphers.{blockOf}
 use Rattle.kept.specs.Kept.{Lent}
 use Rattle.modes.specs.Blocks.{full, pad}
 use Rattle.modes.specs.Mode.{Mode, Opened, walk, headed, sealLast, sealRest, sealRun, openLast, openRest, openRun}
-use Rattle.steps.specs.declared.Kind.{Kind}
-use Rattle.steps.specs.declared.State.{State}
-use Rattle.steps.specs.Modes.{Carried, modeOf, tailOf, stateOf}
+use Rattle.states.specs.declared.Kind.{Kind}
+use Rattle.states.specs.declared.State.{State}
+use Rattle.states.specs.Modes.{Carried, modeOf, tailOf, stateOf}
 
 -- ---- asked
 

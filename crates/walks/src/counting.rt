@@ -1,11 +1,11 @@
 // How many rounds a record runs: by the lengths of its header and body alone, whatever they hold.
 use ciphers::Cipher;
-use steps::Kind;
+use states::Kind;
 ghost use mathlib.Core.Path.{_≡_};
 ghost use Prim.Native.Nat.{_≤_, _<_};
 ghost use Rattle.modes.specs.Blocks.{beforeLast};
 ghost use Rattle.modes.specs.Rounds.{headBlocks};
-ghost use Rattle.steps.specs.Modes.{roundsOf};
+ghost use Rattle.states.specs.Modes.{roundsOf};
 
 // The blocks before the last one, of l bytes.
 fn before_last(n: usize, l: usize) -> usize

@@ -2,8 +2,8 @@
 use crate::is_full;
 use blocks::load;
 use ciphers::Cipher;
-use steps::Kind;
-use steps::State;
+use states::Kind;
+use states::State;
 ghost use Prim.Native.Nat.{_≤_};
 ghost use lib.ListN.{length};
 ghost use Rattle.constants.specs.Constants.{Room};

@@ -6,7 +6,7 @@ use crate::sealing;
 use blocks::equal;
 use blocks::store;
 use ciphers::Cipher;
-use steps::Kind;
+use states::Kind;
 ghost use Prim.Native.Nat.{_+_, _≤_};
 ghost use lib.ListN.{length};
 ghost use Rattle.ciphers.specs.Ciphers.{blockOf};

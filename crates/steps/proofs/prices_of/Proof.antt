@@ -1,7 +1,7 @@
 -- `steps::prices_of` meets its contract: by the mode. Assumes nothing.
 use mathlib.Core.Path.{_∙_, sym, ap}
-use Rattle.steps.specs.declared.Kind.{Kind}
-use Rattle.steps.specs.Modes.{pricesOf}
+use Rattle.states.specs.declared.Kind.{Kind}
+use Rattle.states.specs.Modes.{pricesOf}
 use borrow.Author.Needs.{needs}
 use Rattle.steps.proofs.prices_of.Statement.{statement}
 use Rattle.steps.proofs.prices_of.Tie as tie

@@ -7,7 +7,7 @@ use Rattle.ciphers.proofs.Laws.{block-most}
 use Rattle.modes.specs.Blocks.{full}
 use Rattle.ciphers.specs.Ciphers.{blockOf}
 use Rattle.prepared.specs.Prepared.{keyIn}
-use Rattle.steps.specs.Modes.{modeOf, stateOf}
+use Rattle.states.specs.Modes.{modeOf, stateOf}
 use Rattle.walks.proofs.Places.{loaded}
 use borrow.Author.Needs.{needs}
 use Rattle.walks.proofs.headers.end.Statement.{statement}

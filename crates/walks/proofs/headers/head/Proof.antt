@@ -6,7 +6,7 @@ use Rattle.ciphers.specs.Ciphers.{blockOf}
 use Rattle.prepared.specs.Prepared.{keyIn}
 use Rattle.modes.specs.Mode.{walk, headed}
 use Rattle.modes.proofs.Rest.{headed-skip, headed-none, headed-some}
-use Rattle.steps.specs.Modes.{modeOf}
+use Rattle.states.specs.Modes.{modeOf}
 use Rattle.walks.proofs.Answered.{reached-as}
 use Rattle.walks.proofs.Places.{lent-none}
 use borrow.Author.Needs.{needs}

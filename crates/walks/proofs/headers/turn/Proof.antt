@@ -4,7 +4,7 @@ use native.Mathlib.Omega.{arith}
 use Rattle.ciphers.proofs.Laws.{block-most}
 use Rattle.ciphers.specs.Ciphers.{blockOf}
 use Rattle.prepared.specs.Prepared.{keyIn}
-use Rattle.steps.specs.Modes.{modeOf, stateOf}
+use Rattle.states.specs.Modes.{modeOf, stateOf}
 use Rattle.walks.proofs.Places.{loaded-full}
 use borrow.Author.Needs.{needs}
 use Rattle.walks.proofs.headers.turn.Statement.{statement}

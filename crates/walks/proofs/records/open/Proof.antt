@@ -4,7 +4,7 @@ use lib.ListN.{length-take}
 use Rattle.ciphers.proofs.Laws.{block-most}
 use Rattle.ciphers.specs.Ciphers.{blockOf}
 use Rattle.prepared.specs.Prepared.{keyIn}
-use Rattle.steps.specs.Modes.{modeOf}
+use Rattle.states.specs.Modes.{modeOf}
 use Rattle.walks.proofs.FromHeader.{open-none, open-some}
 use borrow.Author.Needs.{needs}
 use Rattle.walks.proofs.records.open.Statement.{statement}

@@ -4,7 +4,7 @@ use lib.Seq.{length-take-le}
 use Rattle.ciphers.proofs.Laws.{block-most}
 use Rattle.ciphers.specs.Ciphers.{blockOf}
 use Rattle.prepared.specs.Prepared.{keyIn}
-use Rattle.steps.specs.Modes.{modeOf}
+use Rattle.states.specs.Modes.{modeOf}
 use Rattle.walks.proofs.FromHeader.{seal-none, seal-some}
 use borrow.Author.Needs.{needs}
 use Rattle.walks.proofs.records.seal.Statement.{statement}

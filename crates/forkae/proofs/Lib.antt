@@ -1,0 +1,2 @@
+mod PaefSteps
+mod SaefSteps

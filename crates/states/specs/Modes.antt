@@ -1,0 +1,56 @@
+-- The modes by name, over ForkSkinny, and what their blocks cost. Assumes nothing.
+use Prim.Native.Nat.{ℕ}
+use mathlib.Core.Bool.{Bool, true, false}
+use mathlib.Core.List.{List}
+use lib.ListN.{take}
+use Rattle.ciphers.specs.declared.Cipher.{Cipher}
+use Rattle.ciphers.specs.Ciphers.{blockOf}
+use Rattle.modes.specs.Forkcipher.{half0, bothHalves}
+use Rattle.modes.specs.Mode.{Mode}
+use Rattle.modes.specs.Paef.{Sum, paef}
+use Rattle.modes.specs.Rounds.{roundsBy}
+use Rattle.modes.specs.Saef.{Mask, saef}
+use Rattle.states.specs.declared.Kind.{Kind}
+use Rattle.states.specs.declared.Kind.the-variants.{Paef, Saef}
+use Rattle.states.specs.declared.Prices.{Prices}
+use Rattle.states.specs.declared.State.{State}
+use Rattle.states.specs.Skinny.{skinny, costOf}
+
+-- what a mode carries from block to block
+abbrev pub Carried : Kind → Type 0
+Carried Paef = Sum
+Carried Saef = Mask
+
+-- a mode, under a cipher, a key and a nonce
+abbrev pub modeOf : (k : Kind) → Cipher → List ℕ → List ℕ → Mode (Carried k)
+modeOf Paef c key nonce = paef (blockOf c) (skinny c key) nonce
+modeOf Saef c key nonce = saef (blockOf c) (skinny c key) nonce
+
+-- bytes of a tweak behind the nonce
+abbrev pub tailOf : Kind → ℕ
+tailOf Paef = 2
+tailOf Saef = 1
+
+-- does the last block of a run come before the leading bytes of the second (001, figure 5, enc 38, and figure 8, enc 34)
+abbrev pub blockFirst : Kind → Bool
+blockFirst Paef = true
+blockFirst Saef = true
+
+-- has the mode a run for an empty header and an empty body (001, figure 5, enc 14, and figure 8, enc 16)
+abbrev pub takesBlank : Kind → Bool
+takesBlank Paef = true
+takesBlank Saef = true
+
+-- what the code's record carries of it: of sixteen bytes the first n count
+abbrev pub stateOf : (k : Kind) → ℕ → State → Carried k
+stateOf Paef n s = record { sum = take n (s .mask); number = s .number }
+stateOf Saef n s = record { delta = take n (s .mask); first = s .first }
+
+-- the rounds of a header block, of a body block that is not the last, and of the last one, by what they ask for
+abbrev pub pricesOf : Kind → Cipher → Prices
+pricesOf Paef c = record { head = costOf c half0; block = costOf c bothHalves; last = costOf c bothHalves }
+pricesOf Saef c = record { head = costOf c half0; block = costOf c bothHalves; last = costOf c bothHalves }
+
+-- of a record, by the lengths of header and body
+unfoldable pub roundsOf : Kind → Cipher → (header body : ℕ) → ℕ
+roundsOf k c header body = let p = pricesOf k c in roundsBy (blockOf c) (p .head) (p .block) (p .last) header body
