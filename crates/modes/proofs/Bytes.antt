@@ -1,6 +1,7 @@
 -- What holds of bytes, blocks, padding, the test of two strings, and the exclusive or of blocks. Assumes nothing.
 use mathlib.Core.Path.{_≡_, refl, sym, ap, ap₂, _∙_}
-use Prim.Native.Nat.{ℕ, zero, suc, _+_, _-_, _≤_, _<_}
+use Prim.Native.Nat.{ℕ, zero, suc, _+_, _-_, _/_, _≤_, _<_}
+use native.Mathlib.Nat.{mod-lt}
 use native.Mathlib.Omega.{arith}
 use mathlib.Core.Bool.{Bool, true, false, false≢true, cond}
 use mathlib.Core.List.{List, [], _∷_, _++_}
@@ -11,7 +12,7 @@ use lib.Bits.{bitXor, xor-comm}
 use Rattle.cells.specs.Cells.{Bytes, Byte, Block}
 use Rattle.cells.proofs.Laws.{xor-low}
 use Rattle.cells.proofs.Xor.{xor-last}
-use Rattle.modes.specs.Blocks.{ten, pad, _⊕_, same}
+use Rattle.modes.specs.Blocks.{ten, pad, _⊕_, be16, same}
 
 -- ---- bytes
 
@@ -56,6 +57,11 @@ block-take n l h b = record { long = length-take-le n l h; bytes = bytes-take n 
 
 pub block-drop : (k n : ℕ) (l : List ℕ) → length l ≡ k + n → Bytes l → Block n (drop k l)
 block-drop k n l h b = record { long = simp length-drop (omega arith); bytes = bytes-drop k l b }
+
+pub be16-block : (v : ℕ) → Block 2 (be16 v)
+unfolding be16
+be16-block v =
+    record { long = refl; bytes = bytes-cons (mod-lt (v / 256) (lit< tt)) (bytes-cons (mod-lt v (lit< tt)) bytes-nil) }
 
 pub block-zeros : (n : ℕ) → Block n (replicate n 0)
 block-zeros n = record { long = length-replicate n 0; bytes = bytes-zeros n }

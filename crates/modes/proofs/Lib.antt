@@ -1,4 +1,8 @@
 pub mod Bytes
+pub mod EeveeLaws
+pub mod EeveeOnly
+pub mod EeveeShort
+pub mod EeveeTweaks
 pub mod Ends
 pub mod Exact
 pub mod Only
@@ -8,4 +12,5 @@ pub mod Rest
 pub mod Rounds
 pub mod SaefLaws
 pub mod Turn
+pub mod Tweaks
 pub mod Undo

@@ -137,7 +137,7 @@ module _ {St : Type 0} {F G : Fork} {M N : Mode St} (n : ℕ) (H : Heeds F G M N
 -- ---- PAEF and SAEF
 
 -- equal lists of answers have equal entries
-answer : (i : ℕ) {l k : List (List ℕ)} → l ≡ k → getD l i [] ≡ getD k i []
+pub answer : (i : ℕ) {l k : List (List ℕ)} → l ≡ k → getD l i [] ≡ getD k i []
 answer i e = ap (λ (l : List (List ℕ)). getD l i []) e
 
 module _ (n : ℕ) (F G : Fork) (nonce : List ℕ) where

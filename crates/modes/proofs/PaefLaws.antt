@@ -1,26 +1,19 @@
 -- PAEF obeys the laws of a mode, over any forkcipher that obeys its own. Assumes nothing.
-use mathlib.Core.Path.{_≡_, refl, ap}
-use Prim.Native.Nat.{ℕ, _+_, _*_, _/_}
-use native.Mathlib.Nat.{mod-lt}
+use mathlib.Core.Path.{_≡_, ap}
+use Prim.Native.Nat.{ℕ, _+_, _*_}
 use native.Mathlib.Omega.{arith}
 use mathlib.Core.List.{List}
-use lib.Dec.{lit<}
 use Rattle.cells.specs.Cells.{Block}
 use Rattle.modes.specs.Blocks.{_⊕_}
 use Rattle.modes.specs.Forkcipher.{Fork, ForkLaws}
 use Rattle.modes.specs.Lawful.{Lawful}
-use Rattle.modes.specs.Paef.{Sum, be16, paefTweak, paefHead, paefBody, sumTweak, sumHalf, sumInput, sumOther, headSum, paef}
-use Rattle.modes.proofs.Bytes.{bytes-nil, bytes-cons, block-append, block-size, block-zeros, xor-block}
+use Rattle.modes.specs.Paef.{Sum, paefTweak, paefHead, paefBody, sumTweak, sumHalf, sumInput, sumOther, headSum, paef}
+use Rattle.modes.proofs.Bytes.{be16-block, block-append, block-size, block-zeros, xor-block}
 use Rattle.modes.proofs.Undo.{undo-xor, undo-then}
 
 -- what holds of every state: S is a block
 pub record SumOk (n : ℕ) (s : Sum) : Type 0 where
   pub block : Block n (s .sum)
-
-be16-block : (v : ℕ) → Block 2 (be16 v)
-unfolding be16
-be16-block v =
-    record { long = refl; bytes = bytes-cons (mod-lt (v / 256) (lit< tt)) (bytes-cons (mod-lt v (lit< tt)) bytes-nil) }
 
 module _ (n ν : ℕ) (F : Fork) (L : ForkLaws n F) (e : ν + 2 ≡ n) (nonce : List ℕ) (hn : Block ν nonce) where
   tweak-block : (flag : ℕ) (s : Sum) → Block n (sumTweak n F nonce flag s)

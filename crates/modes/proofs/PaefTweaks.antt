@@ -5,51 +5,33 @@
 --     distinct     two such lists whose flags are apart
 -- Assumes nothing.
 use mathlib.Core.Path.{_≡_, refl, sym, ap, _∙_, subst}
-use Prim.Native.Nat.{ℕ, zero, suc, _+_, _-_, _*_, _/_, _%_, _≤_, _<_}
-use native.Mathlib.Nat.{div-lt-iff-lt-mul}
+use Prim.Native.Nat.{ℕ, zero, suc, _+_, _-_, _*_, _≤_, _<_}
 use native.Mathlib.Omega.{arith}
 use native.Mathlib.Decide.{decLt}
 use mathlib.Core.Bool.{Bool, true, false, not, _&&_, cond}
 use mathlib.Core.List.{List, [], _∷_, _++_}
 use lib.ListN.{length, take, drop, getD, length-append, List·getD-append}
-use lib.Seq.{drop-at, getD-append-add}
+use lib.Seq.{getD-append-add}
 use Rattle.modes.specs.Blocks.{beforeLast, full, none}
 use Rattle.modes.specs.Forkcipher.{Fork, Call}
 use Rattle.modes.specs.Mode.{walkFrom, walk, headed}
-use Rattle.modes.specs.Paef.{Sum, be16, paefTweak, paefHead, paefBody, sumTweak, sumAsks, paef}
+use Rattle.modes.specs.Paef.{Sum, paefTweak, paefHead, paefBody, sumTweak, sumAsks, paef}
 use Rattle.modes.specs.Rounds.{callsFrom, headCalls, bodyCalls, sealCalls}
 use Rattle.modes.specs.Tweaks.{tweaks, paefTweaks, Distinct}
 use Rattle.cells.proofs.Choice.{either}
 use Rattle.modes.proofs.Rest.{before-last-none}
+use Rattle.modes.proofs.Tweaks.{same-number, before-few, tweaks-append, calls-long}
 
 -- ---- a tweak tells its flag and its number
 
-same-bytes : (v w : ℕ) → v < 65536 → w < 65536 → v / 256 % 256 ≡ w / 256 % 256 → v % 256 ≡ w % 256 → v ≡ w
-same-bytes v w hv hw high low = omega arith
-
 same-tweak : (nonce : List ℕ) (f g i j : ℕ) → f ≤ 7 → g ≤ 7 → i ≤ 8191 → j ≤ 8191 → paefTweak nonce f i ≡ paefTweak nonce g j
     → (f ≡ g) × (i ≡ j)
-unfolding paefTweak be16
+unfolding paefTweak
 same-tweak nonce f g i j hf hg hi hj e =
-    let v = f * 8192 + i in
-    let w = g * 8192 + j in
-    let l = length nonce in
-    let tail : be16 v ≡ be16 w = sym (drop-at nonce (be16 v) l refl) ∙ ap (drop l) e ∙ drop-at nonce (be16 w) l refl in
-    let same : f * 8192 + i ≡ g * 8192 + j
-    = same-bytes v w (omega arith) (omega arith) (ap (λ (b : List ℕ). getD b 0 0) tail) (ap (λ (b : List ℕ). getD b 1 0) tail) in
+    let same : f * 8192 + i ≡ g * 8192 + j = same-number nonce (f * 8192 + i) (g * 8192 + j) (omega arith) (omega arith) e in
     (omega arith, omega arith)
 
 -- ---- tweaks in a row
-
--- of at most 8,191 blocks, fewer stand before the last
-before-few : (n l : ℕ) → zero < n → l ≤ 8191 * n → beforeLast n l < 8191
-unfolding beforeLast
-before-few n l p h = div-lt-iff-lt-mul {k = n} {x = l - 1} {y = 8191} p .1 (omega arith)
-
-tweaks-append : (cs ds : List Call) → tweaks (cs ++ ds) ≡ tweaks cs ++ tweaks ds
-unfolding tweaks
-tweaks-append [] ds = refl
-tweaks-append (c ∷ cs) ds = ap (λ (ts : List (List ℕ)). c .tweak ∷ ts) (tweaks-append cs ds)
 
 module _ (nonce : List ℕ) where
   -- the tweak of a number, with a flag between two bounds
@@ -95,17 +77,12 @@ module _ (nonce : List ℕ) where
         numbered-more low high (s .number) _ _ (hm s (take n x))
         (rw (← counts s (take n x)) (calls-numbered m (step s (take n x)) (drop n x)))
 
-    calls-long : (m : ℕ) (s : Sum) (x : List ℕ) → length (tweaks (callsFrom n step more last m s x)) ≡ suc m
-    unfolding callsFrom tweaks
-    calls-long zero s x = refl
-    calls-long (suc m) s x = ap suc (calls-long m (step s (take n x)) (drop n x))
-
     calls-few : (s : Sum) (x : List ℕ) → s .number ≡ 1 → zero < n → length x ≤ 8191 * n
         → Few low high (tweaks (callsFrom n step more last (beforeLast n (length x)) s x))
     calls-few s x e p h =
         let m : ℕ = beforeLast n (length x) in (
           subst (λ (k : ℕ). Numbered low high k (tweaks (callsFrom n step more last m s x))) e (calls-numbered m s x),
-          omega (arith, before-few n (length x) p h, calls-long m s x),
+          omega (arith, before-few 8191 n (length x) p (omega arith), calls-long n step more last m s x),
         )
 
   -- the header's, with flags up to 3, and the body's, with flags from 4 on

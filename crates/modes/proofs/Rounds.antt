@@ -1,5 +1,5 @@
 -- The rounds that a rule runs are the formula: for every mode whose calls cost the same from block to block, the sum over the list of its
--- block calls is `roundsBy` of the lengths of header and body alone; and PAEF and SAEF are such modes.
+-- block calls is `roundsBy` of the lengths of header and body alone; and all our modes are such.
 --     seal-total, open-total   the sum, of a record that is sealed and of a run that is opened
 --     rounds-flat              the formula where the last block costs what the others do
 --     rounds-few               up to 2^24 bytes each of header and body it is at most 2^29
@@ -15,10 +15,13 @@ use lib.Dec.{eqb}
 use lib.ListN.{length, take, drop}
 use borrow.Author.Tests.{eqb-true, eq-eqb, ne-eqb}
 use Rattle.modes.specs.Blocks.{beforeLast, none}
-use Rattle.modes.specs.Forkcipher.{Fork, Want, half0, bothHalves, bothBack, Call}
+use Rattle.modes.specs.Forkcipher.{Fork, Want, half0, bothHalves, inputBack, bothBack, Call}
 use Rattle.modes.specs.Mode.{Mode}
 use Rattle.modes.specs.Paef.{sumAsks, paef}
 use Rattle.modes.specs.Saef.{maskAsks, saef}
+use Rattle.modes.specs.Eevee.{eevee}
+use Rattle.modes.specs.Jolteon.{jolteonOwn, jolteon}
+use Rattle.modes.specs.Umbreon.{umbreonOwn, umbreon}
 use Rattle.modes.specs.Rounds.{callsFrom, headCalls, bodyCalls, runCalls, sealCalls, openCalls}
 use Rattle.modes.specs.Rounds.{total, blocks, headBlocks, roundsBy}
 use Rattle.cells.proofs.Choice.{either}
@@ -100,7 +103,7 @@ module _ {St : Type 0} {cost : Want → ℕ} {M : Mode St} {h b l : ℕ} (n : �
       (both-total (eqb (length run) n) header _ _
       (from-total cost n b l (M .backNext) (M .openAsks) _ (P .openMore) (λ s x. P .openLast _ s _) (beforeLast n (length run - n)) _ run))
 
--- ---- PAEF and SAEF: an opened block costs what a sealed one does, where both halves back cost what both halves do
+-- ---- the modes: an opened block costs what a sealed one does, where the input alone costs what half 0 does, and both results what both halves
 
 module _ (n : ℕ) (F : Fork) (nonce : List ℕ) (cost : Want → ℕ) (back : cost bothBack ≡ cost bothHalves) where
   pub paef-priced : Priced cost (paef n F nonce) (cost half0) (cost bothHalves) (cost bothHalves)
@@ -122,6 +125,28 @@ module _ (n : ℕ) (F : Fork) (nonce : List ℕ) (cost : Want → ℕ) (back : c
     sealMore = λ s x. refl;
     sealLast = λ full s x. refl;
     openMore = λ s x. back;
+    openLast = λ full s x. back;
+  }
+
+  pub umbreon-priced : Priced cost (umbreon n F nonce) (cost half0) (cost bothHalves) (cost bothHalves)
+  unfolding umbreon umbreonOwn eevee
+  umbreon-priced = record {
+    head = λ s x. refl;
+    headLast = λ noM full s x. refl;
+    sealMore = λ s x. refl;
+    sealLast = λ full s x. refl;
+    openMore = λ s x. back;
+    openLast = λ full s x. back;
+  }
+
+  pub jolteon-priced : cost inputBack ≡ cost half0 → Priced cost (jolteon n F nonce) (cost half0) (cost half0) (cost bothHalves)
+  unfolding jolteon jolteonOwn eevee
+  jolteon-priced input = record {
+    head = λ s x. refl;
+    headLast = λ noM full s x. refl;
+    sealMore = λ s x. refl;
+    sealLast = λ full s x. refl;
+    openMore = λ s x. input;
     openLast = λ full s x. back;
   }
 

@@ -1,6 +1,6 @@
 -- Blocks of n bytes: how a string is cut into them, padding, and their exclusive or (001, the Forkcipher paper, section 2).
 -- Assumes nothing.
-use Prim.Native.Nat.{ℕ, _-_, _/_}
+use Prim.Native.Nat.{ℕ, _-_, _/_, _%_}
 use mathlib.Core.Bool.{Bool, true, false, cond}
 use mathlib.Core.List.{List, [], _∷_, _++_}
 use lib.Bits.{bitXor}
@@ -35,6 +35,11 @@ unfoldable pub _⊕_ : List ℕ → List ℕ → List ℕ
 (x ∷ xs) ⊕ (y ∷ ys) = bitXor x y ∷ xs ⊕ ys
 
 infixl 70 _⊕_
+
+-- two bytes, the high one first
+unfoldable pub be16 : ℕ → List ℕ
+be16 v = v / 256 % 256 ∷ v % 256 ∷ []
+
 -- are two strings the same
 unfoldable pub same : List ℕ → List ℕ → Bool
 same [] [] = true

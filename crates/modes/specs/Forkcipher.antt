@@ -12,9 +12,9 @@ pub record Fork : Type 0 where
 
 -- ---- a block call: what it asks for, under which tweak, of which block
 
--- F^{T,0}(X), half 0 alone; F^{T,b}(X), both halves; F^{-1,T,0,b}(X), from half 0 the input and the other half
+-- F^{T,0}(X), half 0 alone; F^{T,b}(X), both halves; F^{-1,T,0,i}(X), from half 0 the input alone; F^{-1,T,0,b}(X), and the other half
 pub data Want : Type 0 where
-  half0 bothHalves bothBack : Want
+  half0 bothHalves inputBack bothBack : Want
 
 pub record Call : Type 0 where
   pub want : Want
@@ -27,6 +27,7 @@ asks want tweak x = record { want = want; tweak = tweak; block = x }
 abbrev wanted : Fork → Want → List ℕ → List ℕ → List (List ℕ)
 wanted F half0 tweak x = F .half 0 tweak x ∷ []
 wanted F bothHalves tweak x = F .half 0 tweak x ∷ F .half 1 tweak x ∷ []
+wanted F inputBack tweak x = F .input 0 tweak x ∷ []
 wanted F bothBack tweak x = F .input 0 tweak x ∷ F .other 0 tweak x ∷ []
 
 -- what comes back

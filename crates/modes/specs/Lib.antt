@@ -1,8 +1,11 @@
 pub mod Blocks
+pub mod Eevee
 pub mod Forkcipher
+pub mod Jolteon
 pub mod Lawful
 pub mod Mode
 pub mod Paef
 pub mod Rounds
 pub mod Saef
 pub mod Tweaks
+pub mod Umbreon

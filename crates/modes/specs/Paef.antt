@@ -1,10 +1,10 @@
 -- PAEF over a forkcipher under one key (001, figure 5; "enc" and "dec" cite the lines of its two functions, those marked with a
 -- diamond and those without a mark). Assumes nothing.
-use Prim.Native.Nat.{ℕ, _+_, _*_, _/_, _%_}
+use Prim.Native.Nat.{ℕ, _+_, _*_}
 use mathlib.Core.Bool.{Bool, true, false}
-use mathlib.Core.List.{List, [], _∷_, _++_}
+use mathlib.Core.List.{List, _++_}
 use lib.ListN.{replicate}
-use Rattle.modes.specs.Blocks.{_⊕_}
+use Rattle.modes.specs.Blocks.{_⊕_, be16}
 use Rattle.modes.specs.Forkcipher.{Fork, Want, half0, bothHalves, bothBack, Call, asks}
 use Rattle.modes.specs.Mode.{Mode}
 
@@ -12,10 +12,6 @@ use Rattle.modes.specs.Mode.{Mode}
 pub record Sum : Type 0 where
   pub sum : List ℕ
   pub number : ℕ
-
--- two bytes, the high one first
-unfoldable pub be16 : ℕ → List ℕ
-be16 v = v / 256 % 256 ∷ v % 256 ∷ []
 
 -- N, three bits of flag, thirteen of number (enc 6, 11, 15, 20, 28, 31); within a scheme's limits thirteen are enough, which is a theorem
 -- (`paef-distinct` in proofs/PaefTweaks.antt)

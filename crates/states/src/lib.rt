@@ -6,7 +6,7 @@ ghost use mathlib.Core.Path.{_≡_};
 ghost use mathlib.Core.List.{_++_};
 ghost use Prim.Native.Nat.{_+_, _≤_};
 ghost use lib.ListN.{length, take};
-ghost use Rattle.modes.specs.Paef.{be16};
+ghost use Rattle.modes.specs.Blocks.{be16};
 ghost use Rattle.states.specs.Modes.{blockFirst, takesBlank};
 
 // The modes, by name.

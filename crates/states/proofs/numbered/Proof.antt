@@ -1,6 +1,6 @@
 -- `states::numbered` meets its contract: two bytes are stored behind the nonce. Assumes nothing.
 use Prim.Native.Nat.{_/_, _%_}
-use Rattle.modes.specs.Paef.{be16}
+use Rattle.modes.specs.Blocks.{be16}
 use Rattle.states.proofs.Tweaks.{two-behind}
 use borrow.Author.Needs.{needs}
 use Rattle.states.proofs.numbered.Statement.{statement}
