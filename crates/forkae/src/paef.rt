@@ -83,6 +83,7 @@ pub fn head(
     let kept = left.kept;
     State {
         mask: sum,
+        delta: [0u8; 16],
         number: s.number + 1,
         first: false,
         kept,
@@ -109,6 +110,7 @@ pub fn head_last(
     let kept = left.kept;
     State {
         mask: sum,
+        delta: [0u8; 16],
         number: 1,
         first: false,
         kept,
@@ -182,6 +184,7 @@ fn added(s: State, p: Pair) -> Step
         out,
         next: State {
             mask: xored(sum, second),
+            delta: [0u8; 16],
             number: s.number + 1,
             first: false,
             kept,

@@ -92,6 +92,7 @@ pub fn head(
     let kept = left.kept;
     State {
         mask: delta,
+        delta: [0u8; 16],
         number: s.number,
         first: false,
         kept,
@@ -117,6 +118,7 @@ pub fn head_last(
     let kept = left.kept;
     State {
         mask: delta,
+        delta: [0u8; 16],
         number: 1,
         first: false,
         kept,
@@ -208,6 +210,7 @@ fn moved(s: State, p: Pair) -> Step
         out,
         next: State {
             mask,
+            delta: [0u8; 16],
             number: s.number,
             first: false,
             kept,

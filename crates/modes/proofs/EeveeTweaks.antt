@@ -196,7 +196,7 @@ module _ (n : ℕ) (p : zero < n) (F : Fork) (nonce : List ℕ) (own : Middle) (
       let last : Chain → List ℕ → Call = λ s x. M .headLastAsks noM (full n (length x)) s (pad n x) in
       either (λ (cs : List Call). HeadRow nonce (tweaks cs)) (not noM && none (length header)) _ _ (row-none (headTweak nonce) 3 5, omega arith) (
         calls-row (headTweak nonce) 3 n 4 (M .head) (M .headAsks) last (λ s x. refl)
-        (λ s x. (headEnd noM (full n (length x)), refl, head-end-low noM _)) (λ s x. refl) m (M .start) header,
+            (λ s x. (headEnd noM (full n (length x)), refl, head-end-low noM _)) (λ s x. refl) m (M .start) header,
         omega (arith, before-few 16380 n (length header) p (omega arith), calls-long n (M .head) (M .headAsks) last m (M .start) header),
       )
 
@@ -211,8 +211,8 @@ module _ (n : ℕ) (p : zero < n) (F : Fork) (nonce : List ℕ) (own : Middle) (
       let ts : List (List ℕ) = tweaks (callsFrom n (own .next) (own .sealAsks) last m s body) in
       either (λ (cs : List Call). BodyRow nonce (tweaks cs)) noM _ _ (row-none (bodyTweak nonce) 1 2, omega arith) (
         subst (λ (k : ℕ). Row (bodyTweak nonce) 1 (k + 1) ts) e
-        (calls-row (bodyTweak nonce) 1 n 1 (own .next) (own .sealAsks) last (C .tweak)
-        (λ s x. (bit (full n (length x)), refl, bit-low _)) (C .number) m s body),
+            (calls-row (bodyTweak nonce) 1 n 1 (own .next) (own .sealAsks) last (C .tweak)
+            (λ s x. (bit (full n (length x)), refl, bit-low _)) (C .number) m s body),
         omega (arith, before-few 32767 n (length body) p (omega arith), calls-long n (own .next) (own .sealAsks) last m s body),
       )
 

@@ -35,7 +35,6 @@ unfoldable pub _⊕_ : List ℕ → List ℕ → List ℕ
 (x ∷ xs) ⊕ (y ∷ ys) = bitXor x y ∷ xs ⊕ ys
 
 infixl 70 _⊕_
-
 -- two bytes, the high one first
 unfoldable pub be16 : ℕ → List ℕ
 be16 v = v / 256 % 256 ∷ v % 256 ∷ []

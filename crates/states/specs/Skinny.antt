@@ -7,7 +7,7 @@ use Rattle.ciphers.specs.declared.Cipher.{Cipher}
 use Rattle.ciphers.specs.Ciphers.{blockOf}
 use Rattle.forkskinny.specs.ForkSkinny.{half, input, other}
 use Rattle.forkskinny.specs.Calls.{forkRounds, unforkRounds}
-use Rattle.modes.specs.Forkcipher.{Fork, Want, half0, bothHalves, bothBack}
+use Rattle.modes.specs.Forkcipher.{Fork, Want, half0, bothHalves, inputBack, bothBack}
 
 unfoldable pub skinny : Cipher → List ℕ → Fork
 skinny c key = record {
@@ -16,8 +16,9 @@ skinny c key = record {
   other = λ h tweak x. take (blockOf c) (other c key tweak h x);
 }
 
--- the rounds that a call tells (C-13): half 0 alone is asked for with 0, both results with 2
+-- the rounds that a call tells (C-13): half 0 alone, or back the input alone, is asked for with 0, both results with 2
 abbrev pub costOf : Cipher → Want → ℕ
 costOf c half0 = forkRounds c 0
 costOf c bothHalves = forkRounds c 2
+costOf c inputBack = unforkRounds c 0
 costOf c bothBack = unforkRounds c 2

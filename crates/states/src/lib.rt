@@ -13,18 +13,21 @@ ghost use Rattle.states.specs.Modes.{blockFirst, takesBlank};
 pub enum Kind {
     Paef,
     Saef,
+    Umbreon,
+    Jolteon,
 }
 
-// What goes from block to block: S or Delta, the number of the next block (PAEF), whether no block was worked yet (SAEF), and what the room for
-// round keys holds.
+// What goes from block to block: S (PAEF), Delta (SAEF), T_A (Umbreon) or the sealed block before (Jolteon); Delta (Umbreon, Jolteon); the number
+// of the next block (all but SAEF); whether no block was worked yet (SAEF); and what the room for round keys holds.
 pub struct State {
     pub mask: [u8; 16],
+    pub delta: [u8; 16],
     pub number: usize,
     pub first: bool,
     pub kept: Kept,
 }
 
-// What a header block leaves: S or Delta, and the round keys.
+// One block, such as S, Delta or T_A behind a header block, and the round keys.
 pub struct Left {
     pub mask: [u8; 16],
     pub kept: Kept,
@@ -57,6 +60,8 @@ pub fn block_first(k: Kind) -> bool
     match k {
         Kind::Paef => true,
         Kind::Saef => true,
+        Kind::Umbreon => false,
+        Kind::Jolteon => false,
     }
 }
 
@@ -67,6 +72,8 @@ pub fn takes_blank(k: Kind) -> bool
     match k {
         Kind::Paef => true,
         Kind::Saef => true,
+        Kind::Umbreon => false,
+        Kind::Jolteon => false,
     }
 }
 

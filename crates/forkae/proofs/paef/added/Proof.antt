@@ -3,6 +3,7 @@ use mathlib.Core.Path.{ap}
 use mathlib.Core.List.{List}
 use mathlib.Core.Bool.{false}
 use Prim.Native.Nat.{ℕ, _+_}
+use lib.ListN.{replicate}
 use Rattle.forkae.specs.Made.{addedOf}
 use borrow.Author.Needs.{needs}
 use Rattle.forkae.proofs.paef.added.Statement.{statement}
@@ -18,7 +19,7 @@ returns : tie.Need-returns
 unfolding addedOf
 returns c =
     let a = c .before .before .before .before .before .before .args in
-    ap (λ (l : List ℕ). record { out = a .p .first; next = record { mask = l; number = a .s .number + 1; first = false; kept = a .p .kept } })
+    ap (λ (l : List ℕ). record { out = a .p .first; next = record { mask = l; delta = replicate 16 0; number = a .s .number + 1; first = false; kept = a .p .kept } })
     (c .before .xored .ensures)
 
 pub added-spec : {M : Type 1} → statement M

@@ -15,7 +15,7 @@ unfolding movedOf unmaskedOf
 returns c =
     let after-unmasked = c .before .before .before in
     let a = after-unmasked .before .args in (
-      ap (λ (u : Pair). record { out = u .first; next = record { mask = u .second; number = a .s .number; first = false; kept = u .kept } })
+      ap (λ (u : Pair). record { out = u .first; next = record { mask = u .second; delta = replicate 16 0; number = a .s .number; first = false; kept = u .kept } })
           (after-unmasked .unmasked .ensures .0),
       after-unmasked .unmasked .ensures .1,
     )

@@ -1,0 +1,3 @@
+mod Bodies
+mod Steps
+pub mod Siblings
