@@ -1,1 +1,2 @@
+mod ByMode
 mod Starts

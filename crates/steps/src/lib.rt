@@ -1,5 +1,7 @@
 // The steps of a mode: one block of a header or a body, sealed or opened, by the crate that has the mode.
 use ciphers::Cipher;
+use eevee::jolteon;
+use eevee::umbreon;
 use forkae::paef;
 use forkae::saef;
 use states::Kind;
@@ -33,6 +35,16 @@ pub fn prices_of(c: Cipher, k: Kind) -> Prices
             block: both,
             last: both,
         },
+        Kind::Umbreon => Prices {
+            head: one,
+            block: both,
+            last: both,
+        },
+        Kind::Jolteon => Prices {
+            head: one,
+            block: one,
+            last: both,
+        },
     }
 }
 
@@ -42,6 +54,7 @@ pub fn start(c: Cipher, k: Kind, share: &[u8; 784], nonce: &[u8]) -> State
 {
     State {
         mask: [0u8; 16],
+        delta: [0u8; 16],
         number: 1,
         first: true,
         kept: kept::nothing_kept(),
@@ -64,6 +77,8 @@ pub fn head(
     match k {
         Kind::Paef => paef::head(c, share, nonce, keys, s, x),
         Kind::Saef => saef::head(c, share, nonce, keys, s, x),
+        Kind::Umbreon => eevee::head(c, share, nonce, keys, s, x),
+        Kind::Jolteon => eevee::head(c, share, nonce, keys, s, x),
     }
 }
 
@@ -85,6 +100,8 @@ pub fn head_last(
     match k {
         Kind::Paef => paef::head_last(c, share, nonce, keys, empty, full, s, x),
         Kind::Saef => saef::head_last(c, share, nonce, keys, empty, full, s, x),
+        Kind::Umbreon => eevee::head_last(c, share, nonce, keys, empty, full, s, x),
+        Kind::Jolteon => eevee::head_last(c, share, nonce, keys, empty, full, s, x),
     }
 }
 
@@ -111,6 +128,8 @@ pub fn seal_block(
     match k {
         Kind::Paef => paef::seal_block(c, share, nonce, keys, s, x),
         Kind::Saef => saef::seal_block(c, share, nonce, keys, s, x),
+        Kind::Umbreon => umbreon::seal_block(c, share, nonce, keys, s, x),
+        Kind::Jolteon => jolteon::seal_block(c, share, nonce, keys, s, x),
     }
 }
 
@@ -131,6 +150,8 @@ pub fn seal_last(
     match k {
         Kind::Paef => paef::seal_last(c, share, nonce, keys, full, s, x),
         Kind::Saef => saef::seal_last(c, share, nonce, keys, full, s, x),
+        Kind::Umbreon => eevee::seal_last(c, share, nonce, keys, full, s, x),
+        Kind::Jolteon => eevee::seal_last(c, share, nonce, keys, full, s, x),
     }
 }
 
@@ -150,6 +171,8 @@ pub fn open_block(
     match k {
         Kind::Paef => paef::open_block(c, share, nonce, keys, s, x),
         Kind::Saef => saef::open_block(c, share, nonce, keys, s, x),
+        Kind::Umbreon => umbreon::open_block(c, share, nonce, keys, s, x),
+        Kind::Jolteon => jolteon::open_block(c, share, nonce, keys, s, x),
     }
 }
 
@@ -170,5 +193,7 @@ pub fn open_last(
     match k {
         Kind::Paef => paef::open_last(c, share, nonce, keys, full, s, x),
         Kind::Saef => saef::open_last(c, share, nonce, keys, full, s, x),
+        Kind::Umbreon => eevee::open_last(c, share, nonce, keys, full, s, x),
+        Kind::Jolteon => eevee::open_last(c, share, nonce, keys, full, s, x),
     }
 }

@@ -1,11 +1,12 @@
 -- `steps::head` meets its contract: by the mode. Assumes nothing.
-use mathlib.Core.Path.{_≡_, subst, subst⁻¹}
-use Prim.Native.Nat.{_+_}
-use lib.ListN.{length, take}
+use mathlib.Core.Path.{subst⁻¹}
+use lib.ListN.{length}
 use Rattle.ciphers.specs.Ciphers.{blockOf}
-use Rattle.states.specs.declared.Kind.{Kind}
-use Rattle.states.specs.Modes.{modeOf, stateOf, tailOf}
+use Rattle.modes.specs.Jolteon.{jolteonOwn, jolteon}
+use Rattle.modes.specs.Umbreon.{umbreonOwn, umbreon}
+use Rattle.states.specs.Skinny.{skinny}
 use Rattle.prepared.specs.Prepared.{keyIn}
+use Rattle.steps.proofs.ByMode.{fills-as, HeadBy}
 use borrow.Author.Needs.{needs}
 use Rattle.steps.proofs.head.Statement.{statement}
 use Rattle.steps.proofs.head.Tie as tie
@@ -15,26 +16,37 @@ enum-told c = search needs
 
 head-requires : tie.Need-head-requires
 head-requires c κs =
-    let start = c .before .before .before .before in (
-      subst (λ (k : Kind). length (start .args .nonce .now) + tailOf k ≡ blockOf (start .args .c)) (c .before .enum-told .given .1) (start .pre .0),
-      start .pre .1,
-      start .pre .2,
-    )
+    let start = c .before .before .before .before in
+    (fills-as (start .args .c) (length (start .args .nonce .now)) (c .before .enum-told .given .1) (start .pre .0), start .pre .1, start .pre .2)
 
 enum-told-2 : tie.Need-enum-told-2
 enum-told-2 c = search needs
 
 head-requires-2 : tie.Need-head-requires-2
 head-requires-2 c κs =
-    let start = c .before .before .before .before in (
-      subst (λ (k : Kind). length (start .args .nonce .now) + tailOf k ≡ blockOf (start .args .c)) (c .before .enum-told2 .given .1) (start .pre .0),
-      start .pre .2,
-    )
+    let start = c .before .before .before .before in
+    (fills-as (start .args .c) (length (start .args .nonce .now)) (c .before .enum-told2 .given .1) (start .pre .0), start .pre .2)
+
+enum-told-3 : tie.Need-enum-told-3
+enum-told-3 c = search needs
+
+head-requires-3 : tie.Need-head-requires-3
+head-requires-3 c κs =
+    let start = c .before .before .before .before in
+    (fills-as (start .args .c) (length (start .args .nonce .now)) (c .before .enum-told3 .given .1) (start .pre .0), start .pre .1, start .pre .2)
+
+enum-told-4 : tie.Need-enum-told-4
+enum-told-4 c = search needs
+
+head-requires-4 : tie.Need-head-requires-4
+head-requires-4 c κs =
+    let start = c .before .before .before .before in
+    (fills-as (start .args .c) (length (start .args .nonce .now)) (c .before .enum-told4 .given .1) (start .pre .0), start .pre .1, start .pre .2)
 
 returns : tie.Need-returns
 returns c =
     let a = c .before .before .before .before .before .args in (
-      subst⁻¹ (λ (k : Kind). stateOf k (blockOf (a .c)) (c .head .result) ≡ modeOf k (a .c) (keyIn (a .c) (a .share .now)) (a .nonce .now) .head (stateOf k (blockOf (a .c)) (a .s)) (take (blockOf (a .c)) (a .x))) (c .before .before .enum-told .given .1) (c .head .ensures .0),
+      subst⁻¹ (HeadBy (a .c) (keyIn (a .c) (a .share .now)) (a .nonce .now) (a .s) (a .x) (c .head .result)) (c .before .before .enum-told .given .1) (c .head .ensures .0),
       c .head .ensures .1,
       c .head .ensures .2,
     )
@@ -42,11 +54,44 @@ returns c =
 returns-2 : tie.Need-returns-2
 returns-2 c =
     let a = c .before .before .before .before .before .args in (
-      subst⁻¹ (λ (k : Kind). stateOf k (blockOf (a .c)) (c .head2 .result) ≡ modeOf k (a .c) (keyIn (a .c) (a .share .now)) (a .nonce .now) .head (stateOf k (blockOf (a .c)) (a .s)) (take (blockOf (a .c)) (a .x))) (c .before .before .enum-told2 .given .1) (c .head2 .ensures .0),
+      subst⁻¹ (HeadBy (a .c) (keyIn (a .c) (a .share .now)) (a .nonce .now) (a .s) (a .x) (c .head2 .result)) (c .before .before .enum-told2 .given .1) (c .head2 .ensures .0),
       c .head2 .ensures .1,
       c .head2 .ensures .2,
     )
 
+returns-3 : tie.Need-returns-3
+unfolding umbreon
+returns-3 c =
+    let a = c .before .before .before .before .before .args in
+    let own = umbreonOwn (blockOf (a .c)) (skinny (a .c) (keyIn (a .c) (a .share .now))) (a .nonce .now) in (
+      subst⁻¹ (HeadBy (a .c) (keyIn (a .c) (a .share .now)) (a .nonce .now) (a .s) (a .x) (c .head3 .result)) (c .before .before .enum-told3 .given .1) (c .head3 .ensures .0 own),
+      c .head3 .ensures .1,
+      c .head3 .ensures .2,
+    )
+
+returns-4 : tie.Need-returns-4
+unfolding jolteon
+returns-4 c =
+    let a = c .before .before .before .before .before .args in
+    let own = jolteonOwn (blockOf (a .c)) (skinny (a .c) (keyIn (a .c) (a .share .now))) (a .nonce .now) in (
+      subst⁻¹ (HeadBy (a .c) (keyIn (a .c) (a .share .now)) (a .nonce .now) (a .s) (a .x) (c .head4 .result)) (c .before .before .enum-told4 .given .1) (c .head4 .ensures .0 own),
+      c .head4 .ensures .1,
+      c .head4 .ensures .2,
+    )
+
 pub head-spec : {M : Type 1} → statement M
 head-spec =
-    tie.close (tie.spec enum-told head-requires enum-told-2 head-requires-2 returns returns-2)
+    tie.close
+    (tie.spec
+    enum-told
+    head-requires
+    enum-told-2
+    head-requires-2
+    enum-told-3
+    head-requires-3
+    enum-told-4
+    head-requires-4
+    returns
+    returns-2
+    returns-3
+    returns-4)

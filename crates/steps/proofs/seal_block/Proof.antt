@@ -1,12 +1,8 @@
 -- `steps::seal_block` meets its contract: by the mode. Assumes nothing.
-use mathlib.Core.Path.{subst, subst⁻¹, _≡_}
-use Prim.Native.Nat.{_+_}
+use mathlib.Core.Path.{subst⁻¹}
 use lib.ListN.{length}
-use Rattle.ciphers.specs.Ciphers.{blockOf}
-use Rattle.states.specs.declared.Kind.{Kind}
-use Rattle.states.specs.Modes.{modeOf, tailOf}
-use Rattle.states.specs.Steps.{Stepped}
 use Rattle.prepared.specs.Prepared.{keyIn}
+use Rattle.steps.proofs.ByMode.{fills-as, SealBy}
 use borrow.Author.Needs.{needs}
 use Rattle.steps.proofs.seal_block.Statement.{statement}
 use Rattle.steps.proofs.seal_block.Tie as tie
@@ -16,37 +12,74 @@ enum-told c = search needs
 
 seal-block-requires : tie.Need-seal-block-requires
 seal-block-requires c κs =
-    let start = c .before .before .before .before in (
-      subst (λ (k : Kind). length (start .args .nonce .now) + tailOf k ≡ blockOf (start .args .c)) (c .before .enum-told .given .1) (start .pre .0),
-      start .pre .1,
-      start .pre .2,
-    )
+    let start = c .before .before .before .before in
+    (fills-as (start .args .c) (length (start .args .nonce .now)) (c .before .enum-told .given .1) (start .pre .0), start .pre .1, start .pre .2)
 
 enum-told-2 : tie.Need-enum-told-2
 enum-told-2 c = search needs
 
 seal-block-requires-2 : tie.Need-seal-block-requires-2
 seal-block-requires-2 c κs =
-    let start = c .before .before .before .before in (
-      subst (λ (k : Kind). length (start .args .nonce .now) + tailOf k ≡ blockOf (start .args .c)) (c .before .enum-told2 .given .1) (start .pre .0),
-      start .pre .2,
-    )
+    let start = c .before .before .before .before in
+    (fills-as (start .args .c) (length (start .args .nonce .now)) (c .before .enum-told2 .given .1) (start .pre .0), start .pre .2)
+
+enum-told-3 : tie.Need-enum-told-3
+enum-told-3 c = search needs
+
+seal-block-requires-3 : tie.Need-seal-block-requires-3
+seal-block-requires-3 c κs =
+    let start = c .before .before .before .before in
+    (fills-as (start .args .c) (length (start .args .nonce .now)) (c .before .enum-told3 .given .1) (start .pre .0), start .pre .1, start .pre .2)
+
+enum-told-4 : tie.Need-enum-told-4
+enum-told-4 c = search needs
+
+seal-block-requires-4 : tie.Need-seal-block-requires-4
+seal-block-requires-4 c κs =
+    let start = c .before .before .before .before in
+    (fills-as (start .args .c) (length (start .args .nonce .now)) (c .before .enum-told4 .given .1) (start .pre .0), start .pre .1, start .pre .2)
 
 returns : tie.Need-returns
 returns c =
     let a = c .before .before .before .before .before .args in (
-      subst⁻¹ (λ (k : Kind). Stepped k (blockOf (a .c)) (modeOf k (a .c) (keyIn (a .c) (a .share .now)) (a .nonce .now) .out) (modeOf k (a .c) (keyIn (a .c) (a .share .now)) (a .nonce .now) .next) (a .s) (a .x) (c .seal-block .result .out) (c .seal-block .result .next)) (c .before .before .enum-told .given .1) (c .seal-block .ensures .0),
+      subst⁻¹ (SealBy (a .c) (keyIn (a .c) (a .share .now)) (a .nonce .now) (a .s) (a .x) (c .seal-block .result)) (c .before .before .enum-told .given .1) (c .seal-block .ensures .0),
       c .seal-block .ensures .1,
     )
 
 returns-2 : tie.Need-returns-2
 returns-2 c =
     let a = c .before .before .before .before .before .args in (
-      subst⁻¹ (λ (k : Kind). Stepped k (blockOf (a .c)) (modeOf k (a .c) (keyIn (a .c) (a .share .now)) (a .nonce .now) .out) (modeOf k (a .c) (keyIn (a .c) (a .share .now)) (a .nonce .now) .next) (a .s) (a .x) (c .seal-block2 .result .out) (c .seal-block2 .result .next)) (c .before .before .enum-told2 .given .1) (c .seal-block2 .ensures .0),
+      subst⁻¹ (SealBy (a .c) (keyIn (a .c) (a .share .now)) (a .nonce .now) (a .s) (a .x) (c .seal-block2 .result)) (c .before .before .enum-told2 .given .1) (c .seal-block2 .ensures .0),
       c .seal-block2 .ensures .1,
+    )
+
+returns-3 : tie.Need-returns-3
+returns-3 c =
+    let a = c .before .before .before .before .before .args in (
+      subst⁻¹ (SealBy (a .c) (keyIn (a .c) (a .share .now)) (a .nonce .now) (a .s) (a .x) (c .seal-block3 .result)) (c .before .before .enum-told3 .given .1) (c .seal-block3 .ensures .0),
+      c .seal-block3 .ensures .1,
+    )
+
+returns-4 : tie.Need-returns-4
+returns-4 c =
+    let a = c .before .before .before .before .before .args in (
+      subst⁻¹ (SealBy (a .c) (keyIn (a .c) (a .share .now)) (a .nonce .now) (a .s) (a .x) (c .seal-block4 .result)) (c .before .before .enum-told4 .given .1) (c .seal-block4 .ensures .0),
+      c .seal-block4 .ensures .1,
     )
 
 pub seal-block-spec : {M : Type 1} → statement M
 seal-block-spec =
     tie.close
-    (tie.spec enum-told seal-block-requires enum-told-2 seal-block-requires-2 returns returns-2)
+    (tie.spec
+    enum-told
+    seal-block-requires
+    enum-told-2
+    seal-block-requires-2
+    enum-told-3
+    seal-block-requires-3
+    enum-told-4
+    seal-block-requires-4
+    returns
+    returns-2
+    returns-3
+    returns-4)

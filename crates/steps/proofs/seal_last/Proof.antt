@@ -1,12 +1,13 @@
 -- `steps::seal_last` meets its contract: by the mode. Assumes nothing.
-use mathlib.Core.Path.{subst, subst⁻¹, _≡_}
-use Prim.Native.Nat.{_+_}
+use mathlib.Core.Path.{subst⁻¹}
 use lib.ListN.{length}
 use Rattle.ciphers.specs.Ciphers.{blockOf}
-use Rattle.states.specs.declared.Kind.{Kind}
-use Rattle.states.specs.Modes.{modeOf, tailOf}
-use Rattle.states.specs.Steps.{Paired}
+use Rattle.modes.specs.Jolteon.{jolteonOwn, jolteon}
+use Rattle.modes.specs.Umbreon.{umbreonOwn, umbreon}
+use Rattle.states.specs.Skinny.{skinny}
+use Rattle.eevee.proofs.Siblings.{for-jolteon}
 use Rattle.prepared.specs.Prepared.{keyIn}
+use Rattle.steps.proofs.ByMode.{fills-as, SealLastBy}
 use borrow.Author.Needs.{needs}
 use Rattle.steps.proofs.seal_last.Statement.{statement}
 use Rattle.steps.proofs.seal_last.Tie as tie
@@ -16,37 +17,78 @@ enum-told c = search needs
 
 seal-last-requires : tie.Need-seal-last-requires
 seal-last-requires c κs =
-    let start = c .before .before .before .before in (
-      subst (λ (k : Kind). length (start .args .nonce .now) + tailOf k ≡ blockOf (start .args .c)) (c .before .enum-told .given .1) (start .pre .0),
-      start .pre .1,
-      start .pre .2,
-    )
+    let start = c .before .before .before .before in
+    (fills-as (start .args .c) (length (start .args .nonce .now)) (c .before .enum-told .given .1) (start .pre .0), start .pre .1, start .pre .2)
 
 enum-told-2 : tie.Need-enum-told-2
 enum-told-2 c = search needs
 
 seal-last-requires-2 : tie.Need-seal-last-requires-2
 seal-last-requires-2 c κs =
-    let start = c .before .before .before .before in (
-      subst (λ (k : Kind). length (start .args .nonce .now) + tailOf k ≡ blockOf (start .args .c)) (c .before .enum-told2 .given .1) (start .pre .0),
-      start .pre .2,
-    )
+    let start = c .before .before .before .before in
+    (fills-as (start .args .c) (length (start .args .nonce .now)) (c .before .enum-told2 .given .1) (start .pre .0), start .pre .2)
+
+enum-told-3 : tie.Need-enum-told-3
+enum-told-3 c = search needs
+
+seal-last-requires-3 : tie.Need-seal-last-requires-3
+seal-last-requires-3 c κs =
+    let start = c .before .before .before .before in
+    (fills-as (start .args .c) (length (start .args .nonce .now)) (c .before .enum-told3 .given .1) (start .pre .0), start .pre .2)
+
+enum-told-4 : tie.Need-enum-told-4
+enum-told-4 c = search needs
+
+seal-last-requires-4 : tie.Need-seal-last-requires-4
+seal-last-requires-4 c κs =
+    let start = c .before .before .before .before in
+    (fills-as (start .args .c) (length (start .args .nonce .now)) (c .before .enum-told4 .given .1) (start .pre .0), start .pre .2)
 
 returns : tie.Need-returns
 returns c =
     let a = c .before .before .before .before .before .args in (
-      subst⁻¹ (λ (k : Kind). Paired k (blockOf (a .c)) (modeOf k (a .c) (keyIn (a .c) (a .share .now)) (a .nonce .now) .fin (a .full)) (modeOf k (a .c) (keyIn (a .c) (a .share .now)) (a .nonce .now) .tag (a .full)) (a .s) (a .x) (c .seal-last .result .first) (c .seal-last .result .second)) (c .before .before .enum-told .given .1) (c .seal-last .ensures .0),
+      subst⁻¹ (SealLastBy (a .c) (keyIn (a .c) (a .share .now)) (a .nonce .now) (a .s) (a .x) (a .full) (c .seal-last .result)) (c .before .before .enum-told .given .1) (c .seal-last .ensures .0),
       c .seal-last .ensures .1,
     )
 
 returns-2 : tie.Need-returns-2
 returns-2 c =
     let a = c .before .before .before .before .before .args in (
-      subst⁻¹ (λ (k : Kind). Paired k (blockOf (a .c)) (modeOf k (a .c) (keyIn (a .c) (a .share .now)) (a .nonce .now) .fin (a .full)) (modeOf k (a .c) (keyIn (a .c) (a .share .now)) (a .nonce .now) .tag (a .full)) (a .s) (a .x) (c .seal-last2 .result .first) (c .seal-last2 .result .second)) (c .before .before .enum-told2 .given .1) (c .seal-last2 .ensures .0),
+      subst⁻¹ (SealLastBy (a .c) (keyIn (a .c) (a .share .now)) (a .nonce .now) (a .s) (a .x) (a .full) (c .seal-last2 .result)) (c .before .before .enum-told2 .given .1) (c .seal-last2 .ensures .0),
       c .seal-last2 .ensures .1,
+    )
+
+returns-3 : tie.Need-returns-3
+unfolding umbreon
+returns-3 c =
+    let a = c .before .before .before .before .before .args in
+    let own = umbreonOwn (blockOf (a .c)) (skinny (a .c) (keyIn (a .c) (a .share .now))) (a .nonce .now) in (
+      subst⁻¹ (SealLastBy (a .c) (keyIn (a .c) (a .share .now)) (a .nonce .now) (a .s) (a .x) (a .full) (c .seal-last3 .result)) (c .before .before .enum-told3 .given .1) (c .seal-last3 .ensures .0 own),
+      c .seal-last3 .ensures .1,
+    )
+
+returns-4 : tie.Need-returns-4
+unfolding jolteon
+returns-4 c =
+    let a = c .before .before .before .before .before .args in
+    let own = jolteonOwn (blockOf (a .c)) (skinny (a .c) (keyIn (a .c) (a .share .now))) (a .nonce .now) in (
+      subst⁻¹ (SealLastBy (a .c) (keyIn (a .c) (a .share .now)) (a .nonce .now) (a .s) (a .x) (a .full) (c .seal-last4 .result)) (c .before .before .enum-told4 .given .1) (for-jolteon (c .seal-last4 .ensures .0 own)),
+      c .seal-last4 .ensures .1,
     )
 
 pub seal-last-spec : {M : Type 1} → statement M
 seal-last-spec =
     tie.close
-    (tie.spec enum-told seal-last-requires enum-told-2 seal-last-requires-2 returns returns-2)
+    (tie.spec
+    enum-told
+    seal-last-requires
+    enum-told-2
+    seal-last-requires-2
+    enum-told-3
+    seal-last-requires-3
+    enum-told-4
+    seal-last-requires-4
+    returns
+    returns-2
+    returns-3
+    returns-4)

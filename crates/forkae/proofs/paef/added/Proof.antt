@@ -12,8 +12,8 @@ use Rattle.forkae.proofs.paef.added.Tie as tie
 xored-requires : tie.Need-xored-requires
 xored-requires c κs = search needs
 
-add-t8 : tie.Need-add-t8
-add-t8 c = search needs
+add-t9 : tie.Need-add-t9
+add-t9 c = search needs
 
 returns : tie.Need-returns
 unfolding addedOf
@@ -23,4 +23,4 @@ returns c =
     (c .before .xored .ensures)
 
 pub added-spec : {M : Type 1} → statement M
-added-spec = tie.close (tie.spec xored-requires add-t8 returns)
+added-spec = tie.close (tie.spec xored-requires add-t9 returns)

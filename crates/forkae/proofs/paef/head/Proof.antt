@@ -11,8 +11,8 @@ use Rattle.forkae.proofs.paef.head.Tie as tie
 head-sum-requires : tie.Need-head-sum-requires
 head-sum-requires c κs = search needs
 
-add-t11 : tie.Need-add-t11
-add-t11 c = search needs
+add-t12 : tie.Need-add-t12
+add-t12 c = search needs
 
 returns : tie.Need-returns
 unfolding paef
@@ -22,4 +22,4 @@ returns c =
     (ap (λ (l : List ℕ). record { sum = l; number = a .s .number + 1 }) (h .0), omega arith, h .1)
 
 pub head-spec : {M : Type 1} → statement M
-head-spec = tie.close (tie.spec head-sum-requires add-t11 returns)
+head-spec = tie.close (tie.spec head-sum-requires add-t12 returns)

@@ -1,6 +1,7 @@
 -- `forkae::saef::moved` meets its contract: what was unmasked, and the next Delta. Assumes nothing.
 use mathlib.Core.Path.{ap}
 use mathlib.Core.Bool.{false}
+use lib.ListN.{replicate}
 use Rattle.states.specs.declared.Pair.{Pair}
 use Rattle.forkae.specs.Made.{unmaskedOf, movedOf}
 use borrow.Author.Needs.{needs}
