@@ -2,6 +2,7 @@ mod Answered
 pub mod Counted
 mod FromHeader
 mod Going
+mod Joined
 mod Opened
 mod Places
 mod Sealed

@@ -1,9 +1,9 @@
 -- Opening a run, from what the callees ensure.
---     open-ended   the last block, and the bytes behind it
+--     open-ended   the last block, and the leading bytes of the second
 --     OpenGoing    the loop's invariant: how it begins, what a turn and the end require, and what they do to it
 -- Assumes nothing.
 use mathlib.Core.Path.{_≡_, refl, sym, ap, ap₂, _∙_, subst⁻¹}
-use mathlib.Core.Bool.{Bool, true, _&&_}
+use mathlib.Core.Bool.{Bool, not, cond, _&&_}
 use mathlib.Core.List.{List, _∷_, _++_}
 use Prim.Native.Nat.{ℕ, zero, suc, _+_, _-_, _≤_, _<_}
 use native.Mathlib.Omega.{arith}
@@ -15,17 +15,18 @@ use Rattle.ciphers.specs.Ciphers.{blockOf}
 use Rattle.kept.specs.Kept.{Lent}
 use Rattle.modes.specs.Blocks.{full, ten, pad, same}
 use Rattle.modes.specs.Mode.{Mode, Opened, before, judge, endTag, endBlock, openLast, openRest}
-use Rattle.modes.proofs.Bytes.{pad-long}
 use Rattle.modes.proofs.Turn.{Opening, open-begin, open-turn, open-end}
 use Rattle.states.specs.declared.Kind.{Kind}
 use Rattle.states.specs.declared.State.{State}
-use Rattle.states.specs.Modes.{Carried, modeOf, stateOf}
+use Rattle.states.specs.Modes.{Carried, modeOf, blockFirst, stateOf}
 use Rattle.states.specs.Steps.{Paired}
+use Rattle.states.proofs.Orders.{block-first}
 use Rattle.blocks.proofs.Parts.{part-rest}
 use Rattle.walks.specs.Walks.{Ready, Walkable, Openable, OpenTurned, OpenEnded, RunOpened}
 use Rattle.walks.proofs.Answered.{put-as, opened-as}
 use Rattle.walks.proofs.Going.{Going, going-none, going-more}
-use Rattle.walks.proofs.Places.{block-first, ready-at, lent, after, lent-long}
+use Rattle.walks.proofs.Joined.{block-there, tag-there}
+use Rattle.walks.proofs.Places.{ready-at, lent, after, lent-long}
 use Rattle.walks.proofs.Writing.{writing-end}
 
 -- ---- the parts that are compared
@@ -56,27 +57,29 @@ module _ {St : Type 0} (n : ℕ) (M : Mode St) (st : St) (part first second : Li
   abbrev r : ℕ
   r = length part - n
 
-  open-is : M .blockFirst ≡ true → take n first ≡ M .unfin (full n r) st (take n part)
-      → take n second ≡ M .untag (full n r) st (take n part) → openLast n M st part ≡ judge n r (take n first) (take n second) (drop n part)
-  unfolding openLast endBlock endTag
-  open-is e ef es =
+  -- `ahead` says whether the block comes first
+  open-is : (ahead : Bool) → ahead ≡ M .blockFirst → take n first ≡ M .unfin (full n r) st (endBlock ahead n r part)
+      → take n second ≡ M .untag (full n r) st (endBlock ahead n r part)
+      → openLast n M st part ≡ judge n r (take n first) (take n second) (endTag ahead n r part)
+  unfolding openLast
+  open-is ahead e ef es =
       let f = full n r in
-      ap (λ (b : Bool). judge n r (M .unfin f st (endBlock b n r part)) (M .untag f st (endBlock b n r part)) (endTag b n r part)) e
-      ∙ ap₂ (λ (x y : List ℕ). judge n r x y (drop n part)) (sym ef) (sym es)
+      ap (λ (b : Bool). judge n r (M .unfin f st (endBlock b n r part)) (M .untag f st (endBlock b n r part)) (endTag b n r part)) (sym e)
+      ∙ ap₂ (λ (x y : List ℕ). judge n r x y (endTag ahead n r part)) (sym ef) (sym es)
 
-  judge-is : r ≤ n → n ≤ 16 → length first ≡ 16
-      → judge n r (take n first) (take n second) (drop n part)
+  judge-is : (tag : List ℕ) → r ≤ n → n ≤ 16 → length first ≡ 16
+      → judge n r (take n first) (take n second) tag
       ≡ record {
-        authentic = same (take r second) (drop n part) && same (take (n - r) (drop r first)) (take (n - r) (ten 15));
+        authentic = same (take r second) tag && same (take (n - r) (drop r first)) (take (n - r) (ten 15));
         body = take r first;
       }
   unfolding judge
-  judge-is h k l =
+  judge-is tag h k l =
       let b = behind r n first h (omega arith) in
       let t = ten-front (n - r) n 15 (omega arith) (omega arith) in
       rw (take-take r n first h, take-take r n second h, b, t)
 
--- the front of a part, opened into a rest; m is the n of the code
+-- the end of a run, opened into a rest: its block begins at `at`, the leading bytes of the second at `from`; m is the n of the code
 module _ (c : Cipher) (k : Kind) (key nonce : List ℕ) (s : State) (part rest₀ : List ℕ) where
   abbrev n : ℕ
   n = blockOf c
@@ -87,32 +90,36 @@ module _ (c : Cipher) (k : Kind) (key nonce : List ℕ) (s : State) (part rest�
   abbrev st : Carried k
   st = stateOf k n s
 
-  abbrev Ends : (f : Bool) (x first second : List ℕ) (is : Bool) (rest : List ℕ) → ℕ → Type 0
-  Ends f x first second is rest m =
-      let r = length part - m in
-      f ≡ full m r → take m x ≡ pad m part → Paired k n (M .unfin f) (M .untag f) s x first second → rest ≡ take r first ++ drop r rest₀
-      → is ≡ (same (take r second) (take r (drop m part)) && same (take (m - r) (drop r first)) (take (m - r) (ten 15)))
-      → n ≤ length part → length part ≤ n + n → OpenEnded c k key nonce s part rest₀ is rest
+  module _ (f ahead : Bool) (at from : ℕ) (x first second : List ℕ) (is : Bool) (rest : List ℕ) where
+    abbrev Ends : ℕ → Type 0
+    Ends m =
+        let r = length part - m in
+        f ≡ full m r → ahead ≡ blockFirst k → at ≡ cond (not ahead) r 0 → from ≡ cond ahead m 0 → take m x ≡ pad m (lent at part)
+        → Paired k n (M .unfin f) (M .untag f) s x first second → rest ≡ take r first ++ drop r rest₀
+        → is ≡ (same (take r second) (take (from + r - from) (drop from part)) && same (take (m - r) (drop r first)) (take (m - r) (ten 15)))
+        → n ≤ length part → length part ≤ n + n → OpenEnded c k key nonce s part rest₀ is rest
 
-  ended-at : (f : Bool) (x first second : List ℕ) (is : Bool) (rest : List ℕ) → Ends f x first second is rest n
-  ended-at f x first second is rest ef ex p er ei h g =
-      let r = length part - n in
-      let e : take n x ≡ take n part = ex ∙ pad-long n part h in
-      let o =
-      open-is n M st part first second (block-first k c key nonce)
-      (p .first-is ∙ ap₂ (λ (b : Bool) (y : List ℕ). M .unfin b st y) ef e)
-      (p .second-is ∙ ap₂ (λ (b : Bool) (y : List ℕ). M .untag b st y) ef e)
-      ∙ judge-is n M st part first second (omega arith) (block-most c) (p .first-long) in
-      opened-as (sym o) refl
-      (record {
-        authentic-is =
-            ei
-            ∙ ap (λ (t : List ℕ). same (take r second) t && same (take (n - r) (drop r first)) (take (n - r) (ten 15))) (part-rest n part);
-        put = record { said = er; long = length-take-le r first (omega (arith, p .first-long, block-most c)) };
-      })
+    ended-at : Ends n
+    ended-at ef eo ea et ex p er ei h g =
+        let r = length part - n in
+        let long : length part ≡ r + n = omega arith in
+        let e : take n x ≡ endBlock ahead n r part = ex ∙ block-there n r part long ahead at ea in
+        let o =
+        open-is n M st part first second ahead (eo ∙ sym (block-first k c key nonce))
+        (p .first-is ∙ ap₂ (λ (b : Bool) (y : List ℕ). M .unfin b st y) ef e)
+        (p .second-is ∙ ap₂ (λ (b : Bool) (y : List ℕ). M .untag b st y) ef e)
+        ∙ judge-is n M st part first second (endTag ahead n r part) (omega arith) (block-most c) (p .first-long) in
+        opened-as (sym o) refl
+        (record {
+          authentic-is =
+              ei
+              ∙ ap (λ (t : List ℕ). same (take r second) t && same (take (n - r) (drop r first)) (take (n - r) (ten 15)))
+              (tag-there n r part long ahead from et);
+          put = record { said = er; long = length-take-le r first (omega (arith, p .first-long, block-most c)) };
+        })
 
-  pub open-ended : (m : ℕ) (f : Bool) (x first second : List ℕ) (is : Bool) (rest : List ℕ) → m ≡ n → Ends f x first second is rest m
-  open-ended m f x first second is rest em = subst⁻¹ (Ends f x first second is rest) em (ended-at f x first second is rest)
+    pub open-ended : (m : ℕ) → m ≡ n → Ends m
+    open-ended m em = subst⁻¹ Ends em ended-at
 
 -- ---- the loop
 

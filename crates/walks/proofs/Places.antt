@@ -1,7 +1,5 @@
--- Where the walks stand: the order of a run's end, what is lent and what is loaded from its front, and a step that may be taken.
--- Assumes nothing.
-use mathlib.Core.Bool.{true}
-use mathlib.Core.Path.{_≡_, refl, ap, _∙_, subst, subst⁻¹}
+-- Where the walks stand: what is lent and what is loaded from its front, and a step that may be taken. Assumes nothing.
+use mathlib.Core.Path.{_≡_, ap, _∙_, subst, subst⁻¹}
 use mathlib.Core.List.{List, _++_}
 use Prim.Native.Nat.{ℕ, _+_, _-_, _≤_}
 use native.Mathlib.Omega.{arith}
@@ -13,21 +11,11 @@ use Rattle.kept.specs.declared.Kept.{Kept}
 use Rattle.kept.specs.Kept.{nothing, Keeps, Lent}
 use Rattle.kept.proofs.Parts.{none-kept}
 use Rattle.modes.specs.Blocks.{pad}
-use Rattle.modes.specs.Paef.{paef}
-use Rattle.modes.specs.Saef.{saef}
 use Rattle.states.specs.declared.Kind.{Kind}
-use Rattle.states.specs.declared.Kind.the-variants.{Paef, Saef}
 use Rattle.states.specs.declared.State.{State}
-use Rattle.states.specs.Modes.{modeOf}
 use Rattle.modes.proofs.Bytes.{pad-long}
 use Rattle.blocks.proofs.Parts.{part-rest}
 use Rattle.walks.specs.Walks.{Ready, Walkable}
-
--- in PAEF and SAEF the last block comes before the leading bytes of the second
-pub block-first : (k : Kind) (c : Cipher) (key nonce : List ℕ) → modeOf k c key nonce .blockFirst ≡ true
-unfolding paef saef
-block-first Paef c key nonce = refl
-block-first Saef c key nonce = refl
 
 -- a step at a place of what is walked
 pub ready-at

@@ -4,24 +4,24 @@ use mathlib.Core.Bool.{Bool}
 use mathlib.Core.List.{List, _++_}
 use Prim.Native.Nat.{ℕ, _+_, _-_, _≤_, _<_}
 use native.Mathlib.Omega.{arith}
-use lib.ListN.{length, take, drop}
-use lib.Seq.{length-take-le, take-take}
-use Rattle.ciphers.proofs.Laws.{block-some, block-most}
+use lib.ListN.{length, take}
+use lib.Seq.{take-take}
+use Rattle.ciphers.proofs.Laws.{block-some}
 use Rattle.ciphers.specs.declared.Cipher.{Cipher}
 use Rattle.ciphers.specs.Ciphers.{blockOf}
 use Rattle.blocks.proofs.Parts.{part-rest}
-use Rattle.blocks.proofs.Wrote.{Wrote, wrote-first, wrote-more}
 use Rattle.modes.specs.Blocks.{full, pad}
 use Rattle.modes.specs.Mode.{Mode, join, sealLast, sealRest}
 use Rattle.modes.proofs.Turn.{Sealing, seal-begin, seal-turn, seal-end}
 use Rattle.states.specs.declared.Kind.{Kind}
 use Rattle.states.specs.declared.State.{State}
-use Rattle.states.specs.Modes.{Carried, modeOf, stateOf}
+use Rattle.states.specs.Modes.{Carried, modeOf, blockFirst, stateOf}
 use Rattle.states.specs.Steps.{Paired}
-use Rattle.walks.specs.Walks.{SealTurned, SealEnded, BodySealed}
+use Rattle.states.proofs.Orders.{block-first}
+use Rattle.walks.specs.Walks.{Put, SealTurned, SealEnded, BodySealed}
 use Rattle.walks.proofs.Answered.{put-as}
 use Rattle.walks.proofs.Going.{Going, going-none, going-more}
-use Rattle.walks.proofs.Places.{block-first, lent, after, lent-long}
+use Rattle.walks.proofs.Places.{lent, after, lent-long}
 use Rattle.walks.proofs.Writing.{writing-end}
 
 module _ (c : Cipher) (k : Kind) (key nonce : List ℕ) where
@@ -31,12 +31,11 @@ module _ (c : Cipher) (k : Kind) (key nonce : List ℕ) where
   abbrev M : Mode (Carried k)
   M = modeOf k c key nonce
 
-  -- ---- the last block: rest is lent whole for the block, and then from N on for l bytes of the second
-  module _ (N : ℕ) (f : Bool) (s : State) (part x first second old mid ys : List ℕ)
+  -- ---- the last block, and as many bytes of the second, joined in the mode's order
+  module _ (N : ℕ) (f ahead : Bool) (s : State) (part x first second old new : List ℕ)
       (size : N ≡ n) (e : f ≡ full n (length part)) (ld : take n x ≡ pad n part) (p : Paired k n (M .fin f) (M .tag f) s x first second)
-      (short : length part ≤ n) (fits : length part + n ≤ length old)
-      (put : mid ≡ take N first ++ drop N old)
-      (put2 : ys ≡ take (length part) second ++ drop (length part) (lent N mid)) where
+      (short : length part ≤ n) (is : ahead ≡ blockFirst k)
+      (put : Put (join ahead (take N first) (take (length part) second)) (length part + N) old new) where
     abbrev st : Carried k
     st = stateOf k n s
 
@@ -51,23 +50,12 @@ module _ (c : Cipher) (k : Kind) (key nonce : List ℕ) where
         sym (take-take (length part) n second short)
         ∙ ap (take (length part)) (p .second-is ∙ (λ i. M .tag (e i) st (ld i)))
 
-    last-is : take N first ++ take (length part) second ≡ sealLast n M st part
-    unfolding sealLast join
-    last-is = (λ i. block-is i ++ tag-is i) ∙ sym (ap (λ (b : Bool). join b (M .fin F st (pad n part)) (take (length part) (M .tag F st (pad n part)))) (block-first k c key nonce))
+    last-is : join ahead (take N first) (take (length part) second) ≡ sealLast n M st part
+    unfolding sealLast
+    last-is = λ i. join ((is ∙ sym (block-first k c key nonce)) i) (block-is i) (tag-is i)
 
-    block-long : length (take N first) ≡ N
-    block-long = length-take-le N first (omega (arith, p .first-long, size, block-most c))
-
-    tag-long : length (take (length part) second) ≡ length part
-    tag-long = length-take-le (length part) second (omega (arith, p .second-long, short, block-most c))
-
-    written : Wrote (take N first ++ take (length part) second) old (N + length part) (after N mid ys)
-    written =
-        wrote-more {out = take N first} (wrote-first N block-long (omega (arith, size, fits)) put) (length part) (take (length part) second) ys tag-long
-        (omega (arith, size, fits)) put2
-
-    pub seal-ended : SealEnded c k key nonce s part old (after N mid ys)
-    seal-ended = put-as last-is (omega (arith, size)) (record { said = written .said; long = written .reach })
+    pub seal-ended : SealEnded c k key nonce s part old new
+    seal-ended = put-as last-is (ap (λ (m : ℕ). length part + m) size) put
 
   -- ---- the loop; N is n as the code has it
   module _ (body room₀ : List ℕ) (s₀ : State) where

@@ -1,5 +1,6 @@
 // The walks: over a header, over a body to be sealed, over a run to be opened, block by block. They know no mode.
 pub mod counting;
+pub mod ends;
 pub mod headers;
 pub mod opening;
 pub mod records;

@@ -1,5 +1,6 @@
 // A run longer than a block, opened: each block from its own place, on into the rest of the room. Whether the run is authentic is
 // told at its end; the caller clears the room where it is not.
+use crate::ends::begin;
 use crate::is_full;
 use blocks::differences;
 use blocks::load;
@@ -51,7 +52,7 @@ fn judge(n: usize, r: usize, block: [u8; 16], second: [u8; 16], tag: &[u8]) -> b
     (in_tag | in_padding) == 0
 }
 
-// The end of a run: its last block, and the bytes behind it.
+// The end of a run: its last block, and leading bytes of the second, each from its place.
 fn end(
     c: Cipher,
     k: Kind,
@@ -68,11 +69,14 @@ fn end(
     let n = ciphers::block_of(c);
     let r = part.len() - n;
     let f = is_full(n, r);
-    let p = steps::open_last(c, k, share, nonce, keys, f, s, load(part, n));
+    let ahead = states::block_first(k);
+    let at = begin(!ahead, r);
+    let p = steps::open_last(c, k, share, nonce, keys, f, s, load(&part[at..], n));
     let block = p.first;
     let second = p.second;
     store(rest, block, r);
-    judge(n, r, block, second, &part[n..])
+    let from = begin(ahead, n);
+    judge(n, r, block, second, &part[from..from + r])
 }
 
 pub fn run(

@@ -1,4 +1,5 @@
 // A body that is not empty, sealed: each block from its own place, on into the rest of the room.
+use crate::ends::put;
 use crate::is_full;
 use blocks::load;
 use blocks::store;
@@ -55,8 +56,7 @@ fn end(
     let p = steps::seal_last(c, k, share, nonce, keys, f, s, x);
     let block = p.first;
     let tag = p.second;
-    store(rest, block, n);
-    store(&mut rest[n..], tag, l);
+    put(states::block_first(k), n, l, block, tag, rest);
 }
 
 pub fn body(

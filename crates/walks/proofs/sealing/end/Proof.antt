@@ -1,8 +1,8 @@
--- `walks::sealing::end` meets its contract: the block, and bytes of the second, stored one behind the other. Assumes nothing.
+-- `walks::sealing::end` meets its contract: `seal-ended` of what the callees ensure. Assumes nothing.
 use mathlib.Core.Path.{ap, _∙_}
 use Prim.Native.Nat.{ℕ}
 use native.Mathlib.Omega.{arith}
-use lib.ListN.{length, length-take, length-drop}
+use lib.ListN.{length}
 use Rattle.ciphers.proofs.Laws.{block-most}
 use Rattle.modes.specs.Blocks.{full}
 use Rattle.ciphers.specs.Ciphers.{blockOf}
@@ -25,37 +25,24 @@ load-requires c κs = omega (arith, c .before .block-of .ensures, block-most (c 
 seal-last-requires : tie.Need-seal-last-requires
 seal-last-requires c κs = search needs
 
-store-requires : tie.Need-store-requires
-store-requires c κs =
-    let after-block-of = c .before .before .before .before .before .before .before in
-    let start = after-block-of .before .before .before .before in (
-      omega (arith, after-block-of .block-of .ensures, block-most (start .args .c)),
-      omega
-          (arith, after-block-of .block-of .ensures, start .pre .2),
-    )
+block-first-requires : tie.Need-block-first-requires
+block-first-requires c κs = search needs
 
-sub-store : tie.Need-sub-store
-sub-store c = search needs
-
-part-store-start : tie.Need-part-store-start
-part-store-start c = search needs
-
-part-store-end : tie.Need-part-store-end
-part-store-end c = search needs
-
-store-requires-2 : tie.Need-store-requires-2
-store-requires-2 c κs =
-    let start = c .before .before .before .before .before .before .before .before .before .before .before .before .before .before .before in
-    (omega (arith, start .pre .1, block-most (start .args .c)), simp (length-take, length-drop) (omega arith))
+put-requires : tie.Need-put-requires
+put-requires c κs =
+    let after-block-of = c .before .before .before .before .before .before .before .before in
+    let start = after-block-of .before .before .before .before in
+    let e = after-block-of .block-of .ensures in
+    (omega (arith, e, start .pre .1), omega (arith, e, block-most (start .args .c)), omega (arith, e, start .pre .2))
 
 same-length : tie.Need-same-length
 same-length c = search needs
 
 returns : tie.Need-returns
 returns c =
-    let after-store2 = c .before .before in
-    let after-store = after-store2 .before .before .before .before in
-    let after-seal-last = after-store .before .before .before .before in
+    let after-put = c .before .before in
+    let after-block-first = after-put .before .before in
+    let after-seal-last = after-block-first .before .before .before in
     let after-load = after-seal-last .before .before in
     let after-is-full = after-load .before in
     let after-block-of = after-is-full .before in
@@ -64,8 +51,8 @@ returns c =
     let e = after-block-of .block-of .ensures in
     let f = after-is-full .is-full .ensures ∙ ap (λ (m : ℕ). full m (length (a .part .now))) e in
     let l = loaded _ (blockOf (a .c)) _ (a .part .now) e (after-load .load .ensures) in
-    seal-ended (a .c) (a .k) (keyIn (a .c) (a .share .now)) (a .nonce .now) _ _ (a .s) (a .part .now) _ _ _ _ _ _ e f l (after-seal-last .seal-last .ensures .0)
-    (start .pre .1) (start .pre .2) (after-store .store .ensures) (after-store2 .store2 .ensures)
+    seal-ended (a .c) (a .k) (keyIn (a .c) (a .share .now)) (a .nonce .now) _ _ _ (a .s) (a .part .now) _ _ _ _ _ e f l (after-seal-last .seal-last .ensures .0)
+    (start .pre .1) (after-block-first .block-first .ensures) (after-put .put .ensures)
 
 pub end-spec : {M : Type 1} → statement M
 end-spec =
@@ -75,10 +62,7 @@ end-spec =
     is-full-requires
     load-requires
     seal-last-requires
-    store-requires
-    sub-store
-    part-store-start
-    part-store-end
-    store-requires-2
+    block-first-requires
+    put-requires
     same-length
     returns)
