@@ -1,11 +1,12 @@
-/* The rival: PAEF and SAEF over ForkSkinny, and its block calls, from the documents (docs/DECISIONS.md names them), as a card's maker would
- * write them. tools/bench measures it beside the library; docs/SPEED.md says what kind of program it is. */
+/* The rival: PAEF, SAEF, Umbreon and Jolteon over ForkSkinny, and its block calls, from the documents (docs/DECISIONS.md names them), as a
+ * card's maker would write them. tools/bench measures it beside the library; docs/SPEED.md says what kind of program it is. */
 #include "rival.h"
-#include "forkskinny.h"
+#include "eevee.h"
+#include "paef_saef.h"
 
 #include <string.h>
 
-enum { DONE, UNKNOWN, WRONG_KEY_LENGTH, HEADER_TOO_LONG, TOO_SHORT, ROOM, FORGED, WRONG_NONCE_LENGTH, BODY_TOO_LONG };
+enum { DONE, UNKNOWN, WRONG_KEY_LENGTH, HEADER_TOO_LONG, TOO_SHORT, ROOM, FORGED, WRONG_NONCE_LENGTH, BODY_TOO_LONG, NOTHING = 10 };
 enum { FIRST, SECOND, BOTH };
 enum { KEY_BYTES = 16 };
 
@@ -33,204 +34,121 @@ uint32_t rival_unfork(uint32_t cipher, const uint8_t key[16], const uint8_t twea
     return DONE;
 }
 
-/* ---- the modes ---- */
+/* ---- the schemes ---- */
 
-/* What a call was given, and what it carries from block to block; `sum` is PAEF's S or SAEF's Delta. */
 typedef struct {
+    Mode mode;
     const Cipher *cipher;
-    size_t n, limit;
-    int saef;
-    const uint8_t *key, *nonce;
-    unsigned number; /* of the next block: PAEF counts from 1 in header and body, SAEF marks the very first */
-    uint8_t sum[16];
-} Call;
+    size_t nonce, header_limit, body_limit;
+} Scheme;
 
-static void next_tweak(Call *call, unsigned flag, uint8_t tweak[16])
+/* PAEF numbers 8,191 blocks and SAEF none; Umbreon and Jolteon number 16,379 of a header and 32,766 of a body, all but the last. */
+static const Scheme SCHEMES[7] = {
+    {PAEF, &CIPHERS[0], 6, 65528, 65528},
+    {PAEF, &CIPHERS[1], 14, 131056, 131056},
+    {SAEF, &CIPHERS[1], 15, 1048576, 1048576},
+    {UMBREON, &CIPHERS[0], 6, 131040, 262136},
+    {JOLTEON, &CIPHERS[0], 6, 131040, 262136},
+    {UMBREON, &CIPHERS[1], 14, 262080, 524272},
+    {JOLTEON, &CIPHERS[1], 14, 262080, 524272},
+};
+
+static const Scheme *scheme_of(uint32_t number)
 {
-    size_t n = call->n;
-    unsigned number = call->number++;
-    if (!call->saef) {
-        memcpy(tweak, call->nonce, n - 2);
-        tweak[n - 2] = (uint8_t)(flag << 5 | number >> 8);
-        tweak[n - 1] = (uint8_t)number;
-    } else if (number == 1) {
-        memcpy(tweak, call->nonce, n - 1);
-        tweak[n - 1] = (uint8_t)(8 | flag);
-    } else {
-        memset(tweak, 0, n - 1);
-        tweak[n - 1] = (uint8_t)flag;
-    }
+    return number >= 1 && number <= 7 ? &SCHEMES[number - 1] : NULL;
 }
 
-static void pad(uint8_t *block, const uint8_t *from, size_t length, size_t n)
+static int is_eevee(Mode mode)
 {
-    memset(block, 0, n);
-    memcpy(block, from, length);
-    if (length < n)
-        block[length] = 0x80;
+    return mode == UMBREON || mode == JOLTEON;
 }
 
-static void header_block(Call *call, unsigned flag, const uint8_t *block)
+static void take_header(Call *call, const uint8_t *header, size_t header_len, size_t body_len)
 {
-    uint8_t tweak[16], in[16], half0[16];
-    next_tweak(call, flag, tweak);
-    memcpy(in, block, call->n);
-    if (call->saef)
-        xor_into(in, call->sum, call->n);
-    fork_block(call->cipher, call->key, tweak, in, half0, NULL);
-    if (call->saef)
-        memcpy(call->sum, half0, call->n);
+    if (is_eevee(call->mode))
+        eevee_header(call, header, header_len, body_len == 0);
     else
-        xor_into(call->sum, half0, call->n);
+        paef_saef_header(call, header, header_len, body_len == 0);
 }
 
-static void take_header(Call *call, const uint8_t *header, size_t length, int empty_body)
+static void seal_body(Call *call, const uint8_t *body, size_t body_len, uint8_t *out)
 {
-    size_t n = call->n;
-    uint8_t last[16];
-    unsigned flag;
-    if (length == 0 && !empty_body)
-        return;
-    for (; length > n; length -= n, header += n)
-        header_block(call, 0, header);
-    pad(last, header, length, n);
-    if (call->saef)
-        flag = (length == n ? 2u : 3u) + (empty_body ? 4u : 0u);
+    if (body_len == 0)
+        memcpy(out, call->sum, call->n);
+    else if (is_eevee(call->mode))
+        eevee_seal(call, body, body_len, out);
     else
-        flag = length == n ? 1 : 3;
-    header_block(call, flag, last);
-}
-
-/* The flag of a body block that is followed by others, is the last and full, or is the last and short. */
-static unsigned body_flag(const Call *call, size_t left)
-{
-    if (left > call->n)
-        return call->saef ? 1 : 4;
-    if (left == call->n)
-        return call->saef ? 4 : 5;
-    return call->saef ? 5 : 7;
-}
-
-/* One body block to `out`; half 1 too, for the end. */
-static void seal_block(Call *call, size_t left, const uint8_t *block, uint8_t *out, uint8_t half1[16])
-{
-    uint8_t tweak[16], in[16];
-    size_t n = call->n;
-    next_tweak(call, body_flag(call, left), tweak);
-    memcpy(in, block, n);
-    if (call->saef)
-        xor_into(in, call->sum, n);
-    fork_block(call->cipher, call->key, tweak, in, out, half1);
-    if (call->saef || left <= n)
-        xor_into(out, call->sum, n);
-    if (call->saef)
-        memcpy(call->sum, half1, n);
-    else
-        xor_into(call->sum, half1, n);
-}
-
-static void seal_body(Call *call, const uint8_t *body, size_t left, uint8_t *out)
-{
-    size_t n = call->n;
-    uint8_t last[16], half1[16];
-    if (left == 0) {
-        memcpy(out, call->sum, n);
-        return;
-    }
-    call->number = call->saef ? call->number : 1;
-    for (; left > n; left -= n, body += n, out += n)
-        seal_block(call, left, body, out, half1);
-    pad(last, body, left, n);
-    seal_block(call, left, last, out, half1);
-    memcpy(out + n, half1, left);
-}
-
-/* The block that was sealed to `in`; half 1 too, for the end. */
-static void open_block(Call *call, size_t left, const uint8_t *in, uint8_t *block, uint8_t half1[16])
-{
-    uint8_t tweak[16], half0[16];
-    size_t n = call->n;
-    next_tweak(call, body_flag(call, left), tweak);
-    memcpy(half0, in, n);
-    if (call->saef || left <= n)
-        xor_into(half0, call->sum, n);
-    unfork_block(call->cipher, call->key, tweak, half0, 0, block, half1);
-    if (call->saef) {
-        xor_into(block, call->sum, n);
-        memcpy(call->sum, half1, n);
-    } else {
-        xor_into(call->sum, half1, n);
-    }
+        paef_saef_seal(call, body, body_len, out);
 }
 
 /* Whether the run is authentic. */
-static int open_body(Call *call, const uint8_t *run, size_t left, uint8_t *out)
+static int open_body(Call *call, const uint8_t *run, size_t body_len, uint8_t *out)
 {
-    size_t n = call->n;
-    uint8_t last[16], padded[16], half1[16];
-    if (left == 0)
-        return memcmp(run, call->sum, n) == 0;
-    call->number = call->saef ? call->number : 1;
-    for (; left > n; left -= n, run += n, out += n)
-        open_block(call, left, run, out, half1);
-    open_block(call, left, run, last, half1);
-    memcpy(out, last, left);
-    pad(padded, last, left, n);
-    return memcmp(half1, run + n, left) == 0 && memcmp(padded, last, n) == 0;
+    if (body_len == 0)
+        return memcmp(run, call->sum, call->n) == 0;
+    if (is_eevee(call->mode))
+        return eevee_open(call, run, body_len, out);
+    return paef_saef_open(call, run, body_len, out);
 }
 
 /* ---- seal, open and their rounds ---- */
 
-static const size_t LIMITS[3] = {65528, 131056, 1048576}; /* PAEF numbers 8,191 blocks, SAEF none */
-
-/* The checks that both have in common; sets up the call. */
-static uint32_t begin(Call *call, uint32_t scheme, const uint8_t *key, size_t key_len, const uint8_t *nonce, size_t nonce_len,
+/* The checks that seal and open begin with; sets up the call. */
+static uint32_t begin(Call *call, const Scheme *scheme, const uint8_t *key, size_t key_len, const uint8_t *nonce, size_t nonce_len,
                       size_t header_len)
 {
-    static const uint8_t NONCES[3] = {6, 14, 15};
-    if (scheme < 1 || scheme > 3)
+    if (!scheme)
         return UNKNOWN;
     if (key_len != KEY_BYTES)
         return WRONG_KEY_LENGTH;
-    if (nonce_len != NONCES[scheme - 1])
+    if (nonce_len != scheme->nonce)
         return WRONG_NONCE_LENGTH;
-    call->cipher = &CIPHERS[scheme > 1];
-    call->n = call->cipher->block;
-    call->limit = LIMITS[scheme - 1];
-    if (header_len > call->limit)
+    if (header_len > scheme->header_limit)
         return HEADER_TOO_LONG;
-    call->saef = scheme == 3;
+    call->mode = scheme->mode;
+    call->cipher = scheme->cipher;
+    call->n = scheme->cipher->block;
     call->key = key;
     call->nonce = nonce;
-    call->number = 1;
     memset(call->sum, 0, 16);
+    memset(call->delta, 0, 16);
     return DONE;
 }
 
-uint32_t rival_seal(uint32_t scheme, const uint8_t *key, size_t key_len, const uint8_t *nonce, size_t nonce_len,
+/* And those that they end with. */
+static uint32_t check(const Scheme *scheme, size_t header_len, size_t body_len, size_t room_len, size_t output)
+{
+    if (body_len > scheme->body_limit)
+        return BODY_TOO_LONG;
+    if (room_len < output)
+        return ROOM;
+    return is_eevee(scheme->mode) && header_len + body_len == 0 ? NOTHING : DONE;
+}
+
+uint32_t rival_seal(uint32_t scheme_number, const uint8_t *key, size_t key_len, const uint8_t *nonce, size_t nonce_len,
                     const uint8_t *header, size_t header_len, const uint8_t *body, size_t body_len, uint8_t *room,
                     size_t room_len, size_t *length)
 {
     Call call;
+    const Scheme *scheme = scheme_of(scheme_number);
     uint32_t refused = begin(&call, scheme, key, key_len, nonce, nonce_len, header_len);
     *length = 0;
+    if (!refused)
+        refused = check(scheme, header_len, body_len, room_len, body_len + call.n);
     if (refused)
         return refused;
-    if (body_len > call.limit)
-        return BODY_TOO_LONG;
-    if (room_len < body_len + call.n)
-        return ROOM;
-    take_header(&call, header, header_len, body_len == 0);
+    take_header(&call, header, header_len, body_len);
     seal_body(&call, body, body_len, room);
     *length = body_len + call.n;
     return DONE;
 }
 
-uint32_t rival_open(uint32_t scheme, const uint8_t *key, size_t key_len, const uint8_t *nonce, size_t nonce_len,
+uint32_t rival_open(uint32_t scheme_number, const uint8_t *key, size_t key_len, const uint8_t *nonce, size_t nonce_len,
                     const uint8_t *header, size_t header_len, const uint8_t *sealed, size_t sealed_len, uint8_t *room,
                     size_t room_len, size_t *length)
 {
     Call call;
+    const Scheme *scheme = scheme_of(scheme_number);
     uint32_t refused = begin(&call, scheme, key, key_len, nonce, nonce_len, header_len);
     size_t body_len;
     *length = 0;
@@ -239,11 +157,10 @@ uint32_t rival_open(uint32_t scheme, const uint8_t *key, size_t key_len, const u
     if (sealed_len < call.n)
         return TOO_SHORT;
     body_len = sealed_len - call.n;
-    if (body_len > call.limit)
-        return BODY_TOO_LONG;
-    if (room_len < body_len)
-        return ROOM;
-    take_header(&call, header, header_len, body_len == 0);
+    refused = check(scheme, header_len, body_len, room_len, body_len);
+    if (refused)
+        return refused;
+    take_header(&call, header, header_len, body_len);
     if (!open_body(&call, sealed, body_len, room)) {
         memset(room, 0, body_len);
         return FORGED;
@@ -252,20 +169,25 @@ uint32_t rival_open(uint32_t scheme, const uint8_t *key, size_t key_len, const u
     return DONE;
 }
 
-uint32_t rival_rounds(uint32_t scheme, size_t header_len, size_t body_len, uint32_t *rounds)
+uint32_t rival_rounds(uint32_t scheme_number, size_t header_len, size_t body_len, uint32_t *rounds)
 {
+    const Scheme *scheme = scheme_of(scheme_number);
+    uint32_t refused;
     *rounds = 0;
-    if (scheme < 1 || scheme > 3)
+    if (!scheme)
         return UNKNOWN;
-    if (header_len > LIMITS[scheme - 1])
+    if (header_len > scheme->header_limit)
         return HEADER_TOO_LONG;
-    if (body_len > LIMITS[scheme - 1])
-        return BODY_TOO_LONG;
-    const Cipher *cipher = &CIPHERS[scheme > 1];
-    size_t n = cipher->block;
+    refused = check(scheme, header_len, body_len, 0, 0);
+    if (refused)
+        return refused;
+    size_t n = scheme->cipher->block;
     uint32_t header = (uint32_t)((header_len + n - 1) / n), body = (uint32_t)((body_len + n - 1) / n);
+    uint32_t one = (uint32_t)(scheme->cipher->init + scheme->cipher->branch), both = one + (uint32_t)scheme->cipher->branch;
     if (header + body == 0)
         header = 1; /* the padded empty block */
-    *rounds = header * (uint32_t)(cipher->init + cipher->branch) + body * (uint32_t)(cipher->init + 2 * cipher->branch);
+    *rounds = header * one;
+    if (body > 0)
+        *rounds += (body - 1) * (scheme->mode == JOLTEON ? one : both) + both;
     return DONE;
 }
