@@ -1,5 +1,5 @@
-/* Auraski for C: sealing and opening of records with PAEF and SAEF, the rounds that they run, ForkSkinny's block calls, and keys prepared
- * once for many calls.
+/* Auraski for C: sealing and opening of records with PAEF, SAEF, Umbreon and Jolteon, the rounds that they run, ForkSkinny's block calls, and
+ * keys prepared once for many calls.
  *
  * SPDX-License-Identifier: 0BSD
  *
@@ -30,13 +30,13 @@
 #include <stdint.h>
 
 /* The same as `pkg-config --modversion auraski` says. */
-#define AURASKI_VERSION "0.7.0"
+#define AURASKI_VERSION "0.8.0"
 #define AURASKI_VERSION_MAJOR 0
-#define AURASKI_VERSION_MINOR 7
+#define AURASKI_VERSION_MINOR 8
 #define AURASKI_VERSION_PATCH 0
 
-/* A call takes at most so many bytes of stack, its arguments included, whatever the record's length: an empty one takes as much as one with
- * a header and a body of 1,048,576 bytes. This is measured, not proved, with the names of the C library bound before the call (-static or
+/* A call takes at most so many bytes of stack, its arguments included, whatever the record's length: the shortest takes as much as the
+ * longest. This is measured, not proved, with the names of the C library bound before the call (-static or
  * -Wl,-z,now): where the loader binds them at the first call, its own stack comes on top. */
 #define AURASKI_STACK_BYTES 4096u
 
@@ -54,8 +54,8 @@ extern "C" {
 
 /* ---- sealing and opening ---- */
 
-/* A seal makes of a body a run, ciphertext and tag in one, which is a block longer. The header (the associated data) has its part in the
- * making, but does not go into the run: who opens the run has to have it.
+/* A seal makes of a body a run, ciphertext and tag in one, which is a block longer; under schemes 4 to 7 its last block is the tag. The header
+ * (the associated data) has its part in the making, but does not go into the run: who opens the run has to have it.
  *
  * Schemes. A key has 16 bytes under each. The nonce must not be used twice under one key.
  *
@@ -63,11 +63,25 @@ extern "C" {
  *   1  PAEF over 64-192          8       6           65,528         65,528   8 to 65,536 bytes
  *   2  PAEF over 128-256        16      14          131,056        131,056   16 to 131,072
  *   3  SAEF over 128-256        16      15        1,048,576      1,048,576   16 to 1,048,592
+ *   4  Umbreon over 64-192       8       6          131,040        262,136   8 to 262,144
+ *   5  Jolteon over 64-192       8       6          131,040        262,136   8 to 262,144
+ *   6  Umbreon over 128-256     16      14          262,080        524,272   16 to 524,288
+ *   7  Jolteon over 128-256     16      14          262,080        524,272   16 to 524,288
  *
- * Header and body may be empty. */
+ * Header and body may be empty; under schemes 4 to 7 not both of one record.
+ *
+ * The limits are as many blocks as the mode has numbers for: 8,191 under PAEF; under Umbreon and Jolteon 16,379 of a header and 32,766 of a
+ * body, and one more each, for the last block has no number. SAEF numbers none; its limit is set.
+ *
+ * For a body of at most one block Umbreon and Jolteon make the same run. So such a record of scheme 4 opens under 5 as well, and back, and of 6
+ * under 7: nothing in the run tells which it was. Keep the scheme with the record, or use a key under one scheme alone. */
 #define AURASKI_PAEF_64_192 1u
 #define AURASKI_PAEF_128_256 2u
 #define AURASKI_SAEF_128_256 3u
+#define AURASKI_UMBREON_64_192 4u
+#define AURASKI_JOLTEON_64_192 5u
+#define AURASKI_UMBREON_128_256 6u
+#define AURASKI_JOLTEON_128_256 7u
 
 #define AURASKI_KEY_BYTES 16u
 
@@ -75,15 +89,31 @@ extern "C" {
 #define AURASKI_PAEF_64_192_BLOCK 8u
 #define AURASKI_PAEF_128_256_BLOCK 16u
 #define AURASKI_SAEF_128_256_BLOCK 16u
+#define AURASKI_UMBREON_64_192_BLOCK 8u
+#define AURASKI_JOLTEON_64_192_BLOCK 8u
+#define AURASKI_UMBREON_128_256_BLOCK 16u
+#define AURASKI_JOLTEON_128_256_BLOCK 16u
 
 #define AURASKI_PAEF_64_192_NONCE 6u
 #define AURASKI_PAEF_128_256_NONCE 14u
 #define AURASKI_SAEF_128_256_NONCE 15u
+#define AURASKI_UMBREON_64_192_NONCE 6u
+#define AURASKI_JOLTEON_64_192_NONCE 6u
+#define AURASKI_UMBREON_128_256_NONCE 14u
+#define AURASKI_JOLTEON_128_256_NONCE 14u
 
-/* The longest header, and the longest body. */
+/* The longest header, and the longest body: under PAEF and SAEF one number for both. */
 #define AURASKI_PAEF_64_192_LIMIT 65528u
 #define AURASKI_PAEF_128_256_LIMIT 131056u
 #define AURASKI_SAEF_128_256_LIMIT 1048576u
+#define AURASKI_UMBREON_64_192_HEADER_LIMIT 131040u
+#define AURASKI_UMBREON_64_192_BODY_LIMIT 262136u
+#define AURASKI_JOLTEON_64_192_HEADER_LIMIT 131040u
+#define AURASKI_JOLTEON_64_192_BODY_LIMIT 262136u
+#define AURASKI_UMBREON_128_256_HEADER_LIMIT 262080u
+#define AURASKI_UMBREON_128_256_BODY_LIMIT 524272u
+#define AURASKI_JOLTEON_128_256_HEADER_LIMIT 262080u
+#define AURASKI_JOLTEON_128_256_BODY_LIMIT 524272u
 
 /* Answers, in the order of the checks: the first that applies answers, and if none does, it is 0. So a number also says that all before
  * it was right. */
@@ -94,17 +124,18 @@ extern "C" {
 #define AURASKI_BODY_TOO_LONG 8u      /* the body is longer than the scheme takes (open: the run less a block) */
 #define AURASKI_TOO_SHORT 4u          /* open: the sealed run is shorter than a block */
 #define AURASKI_ROOM 5u               /* the room is shorter than the output; one of exactly its length is enough */
+#define AURASKI_NOTHING 10u           /* header and body are both empty: schemes 4 to 7 have no run for them */
 #define AURASKI_FORGED 6u             /* open: not authentic: no body seals to this run under this key, nonce and header */
 #define AURASKI_DONE 0u
 
 /* Seals a body under a header. The sealed run has body_len and a block of bytes. With 0 it goes to the front of the room and its length
- * to *length; the rest of the room is unchanged. Refused with 1, 2, 7, 3, 8 or 5: *length is 0, the room unchanged. */
+ * to *length; the rest of the room is unchanged. Refused with 1, 2, 7, 3, 8, 5 or 10: *length is 0, the room unchanged. */
 uint32_t auraski_seal(uint32_t scheme, const uint8_t *key, size_t key_len, const uint8_t *nonce, size_t nonce_len,
                       const uint8_t *header, size_t header_len, const uint8_t *body, size_t body_len, uint8_t *room,
                       size_t room_len, size_t *length) AURASKI_CHECKED;
 
 /* Opens a sealed run. The body has sealed_len less a block of bytes. With 0 it goes to the front of the room and its length, which may
- * be 0, to *length; the rest of the room is unchanged. Refused with 1, 2, 7, 3, 8, 4 or 5: *length is 0, the room unchanged. Refused
+ * be 0, to *length; the rest of the room is unchanged. Refused with 1, 2, 7, 3, 8, 4, 5 or 10: *length is 0, the room unchanged. Refused
  * with 6: *length is 0, zeros where the body would have been, the rest unchanged. Only the answer 0 says that a run is authentic, and
  * until the call returns the room may hold what is not. */
 uint32_t auraski_open(uint32_t scheme, const uint8_t *key, size_t key_len, const uint8_t *nonce, size_t nonce_len,
@@ -115,16 +146,20 @@ uint32_t auraski_open(uint32_t scheme, const uint8_t *key, size_t key_len, const
 
 /* Tells how many rounds of ForkSkinny a seal runs for a header and a body of these lengths, or an open of a run of body_len and a block
  * of bytes: the two run as many, whatever key, nonce and bytes they are given. With 0 the number goes to *rounds. Refused as they are with
- * 1, 3 or 8: *rounds is 0. An open that is refused with 6 has run as many as one that is done; a call that is refused with any other number
- * has run none.
+ * 1, 3, 8 or 10: *rounds is 0. An open that is refused with 6 has run as many as one that is done; a call that is refused with any other
+ * number has run none.
  *
- *                            a header block   a body block   at most, header and body together
- *   1  PAEF over 64-192                  40             63     843,673 rounds
- *   2  PAEF over 128-256                 48             75   1,007,493
- *   3  SAEF over 128-256                 48             75   8,060,928
+ *                            a header block   a body block   the last one   at most, header and body together
+ *   1  PAEF over 64-192                  40             63             63     843,673 rounds
+ *   2  PAEF over 128-256                 48             75             75   1,007,493
+ *   3  SAEF over 128-256                 48             75             75   8,060,928
+ *   4  Umbreon over 64-192               40             63             63   2,719,521
+ *   5  Jolteon over 64-192               40             40             63   1,965,903
+ *   6  Umbreon over 128-256              48             75             75   3,243,765
+ *   7  Jolteon over 128-256              48             48             75   2,359,083
  *
- * A short last block counts as a block, and an empty header or body has none; but where both are empty, one header block is worked. Making
- * the round keys is not counted. */
+ * A short last block counts as a block, and an empty header or body has none; but where both are empty, schemes 1 to 3 work one header
+ * block. Making the round keys is not counted. */
 uint32_t auraski_rounds(uint32_t scheme, size_t header_len, size_t body_len, uint32_t *rounds) AURASKI_CHECKED;
 
 /* ---- the block calls: AURASKI_DONE or AURASKI_UNKNOWN ---- */
@@ -164,8 +199,8 @@ uint32_t auraski_unfork(uint32_t cipher, const uint8_t key[16], const uint8_t tw
  * what they are is the library's own affair and may change with its version. */
 #define AURASKI_PREPARED 801u
 
-/* Prepares a key for a cipher: AURASKI_64_192 for scheme 1, AURASKI_128_256 for schemes 2 and 3. Answers 0; or 1 (no such cipher) or 2 (the
- * key does not have 16 bytes), in this order: then `prepared` is all zeros, which no call admits. */
+/* Prepares a key for a cipher: AURASKI_64_192 for schemes 1, 4 and 5, AURASKI_128_256 for schemes 2, 3, 6 and 7. Answers 0; or 1 (no such
+ * cipher) or 2 (the key does not have 16 bytes), in this order: then `prepared` is all zeros, which no call admits. */
 uint32_t auraski_prepare(uint32_t cipher, const uint8_t *key, size_t key_len,
                          uint8_t prepared[AURASKI_PREPARED]) AURASKI_CHECKED;
 
