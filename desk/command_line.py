@@ -71,7 +71,7 @@ def parser():
     run.add_argument("files", metavar="FILE", nargs="+", help="a sheet, or a raw job if its name ends in .job")
     run.set_defaults(action=commands.run_files)
     explain = add_command(kinds, "explain", "say what an answer number means", helps.EXPLAIN, helps.EXPLAIN_EXAMPLE)
-    explain.add_argument("number", metavar="NUMBER", nargs="?", help="0 to 9; zeros before it don't count")
+    explain.add_argument("number", metavar="NUMBER", nargs="?", help="0 to 10; zeros before it don't count")
     explain.set_defaults(action=commands.explain_number)
     return top
 

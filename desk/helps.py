@@ -1,6 +1,6 @@
 """What --help says. Its examples can be typed as they stand."""
 
-SCHEME = "1, 2 or 3; any other up to 255 is handed on and refused"
+SCHEME = "1 to 7; any other up to 255 is handed on and refused"
 KEY = "16 bytes; better as @FILE than in hex, see below"
 JOB_FILE = "also write the job's bytes, for `sealjob < FILE`; the key is in them"
 OUT = "also write the output's bytes, only after answer 0; - for standard output, which then gets nothing else"
@@ -93,7 +93,7 @@ example:
 
 EXPLAIN = """\
 Says what an answer number means, what to check next, and what is left behind. Without a number
-it lists them all. The numbers are 0 to 9.
+it lists them all. The numbers are 0 to 10.
 """
 
 EXPLAIN_EXAMPLE = """\

@@ -13,7 +13,7 @@ TOOLS = os.path.join(os.path.dirname(os.path.dirname(os.path.abspath(__file__)))
 UNBUILT = 3  # tools/desk --sealjob says so by its status
 SECONDS = 60  # no job takes a second, also under an emulator
 GRACE = 20  # seconds in which a build that is stopped has ended its provers
-LINE = re.compile(rb"([0-9]) (0|[1-9][0-9]*) (-|(?:[0-9a-f]{2})+)\n")
+LINE = re.compile(rb"(10|[0-9]) (0|[1-9][0-9]*) (-|(?:[0-9a-f]{2})+)\n")
 
 Answer = namedtuple("Answer", "number output line")
 

@@ -2,6 +2,7 @@
 import os
 from collections import namedtuple
 
+import explain
 from files import read_file
 from jobs import OPEN, SEAL, Job
 from trouble import Trouble, placed, plain
@@ -101,7 +102,7 @@ def expected(name, lines):
     """The number and the output that a sheet expects; None where it says nothing."""
     expect = output = None
     if "expect" in lines:
-        expect = placed(lines["expect"].place, number_of, lines["expect"].value, 9)
+        expect = placed(lines["expect"].place, number_of, lines["expect"].value, explain.MOST)
     if "output" in lines:
         output = section(name, lines, "output")
         if expect != 0:

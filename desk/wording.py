@@ -15,7 +15,7 @@ def done(job, answer):
 
 
 def no_scheme(job, _scheme):
-    return f"given {job.scheme}; there are 1, 2 and 3"
+    return f"given {job.scheme}; there are 1 to 7"
 
 
 def is_hex_text(data):
@@ -44,11 +44,16 @@ def too_short(job, scheme):
     return f"given {count(job.body)}, a block of scheme {job.scheme} has {scheme.block}"
 
 
+def nothing(job, _scheme):
+    body = "a run of one block has an empty body, and " if job.verb == "open" else ""
+    return f"{body}scheme {job.scheme} has no run for them"
+
+
 def not_authentic(_job, _scheme):
     return "no byte of a body is given"
 
 
-DETAILS = {1: no_scheme, 2: key_length, 4: too_short, 6: not_authentic, 7: nonce_length}
+DETAILS = {1: no_scheme, 2: key_length, 4: too_short, 6: not_authentic, 7: nonce_length, 10: nothing}
 
 
 def detail(number, data, job):

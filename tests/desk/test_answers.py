@@ -20,13 +20,15 @@ class Meanings(support.DeskTest):
 
     def test_refused(self):
         for number, job, words in (
-            (1, Job(7, 0, KEY, NONCE, b"", b""), "no such scheme: given 7; there are 1, 2 and 3"),
+            (1, Job(8, 0, KEY, NONCE, b"", b""), "no such scheme: given 8; there are 1 to 7"),
             (3, Job(1, 0, KEY, NONCE, b"", b""), "refused, header too long"),
             (4, Job(1, 1, KEY, NONCE, b"", bytes(7)), "given 7 bytes, a block of scheme 1 has 8"),
             (5, Job(2, 0, KEY, NONCE, b"", b""), "refused, room shorter than the output"),
             (6, Job(2, 1, KEY, NONCE, b"", bytes(16)), "refused, not authentic: no byte of a body is given"),
             (8, Job(1, 0, KEY, NONCE, b"", b""), "refused, body too long"),
             (9, Job(2, 0, KEY, NONCE, b"", bytes(20000)), "not a job: it has 20,040 bytes, and 16,384 is the most"),
+            (10, Job(6, 0, KEY, NONCE, b"", b""), "refused, header and body both empty: scheme 6 has no run for them"),
+            (10, Job(7, 1, KEY, NONCE, b"", bytes(16)), "a run of one block has an empty body, and scheme 7 has no run for them"),
         ):
             with self.subTest(number=number):
                 self.assertIn(words, said(number, job))
@@ -60,13 +62,13 @@ class Lines(support.DeskTest):
     def test_taken(self):
         self.assertEqual(sealjob.answer_of(b"0 2 0aff\n"), (0, b"\x0a\xff", "0 2 0aff"))
         self.assertEqual(sealjob.answer_of(b"0 0 -\n"), (0, b"", "0 0 -"))
-        for number in b"123456789":
-            self.assertEqual(sealjob.answer_of(b"%c 0 -\n" % number).number, number - 48)
+        for number in range(1, 11):
+            self.assertEqual(sealjob.answer_of(b"%d 0 -\n" % number).number, number)
 
     def test_not_taken(self):
-        for printed in (b"", b"\n", b"0 2 0aff", b"0 2 0AFF\n", b"0 2 0aff\n\n", b"0 2 0aff\n0 2 0aff\n", b"0  2 0aff\n", b"10 0 -\n",
+        for printed in (b"", b"\n", b"0 2 0aff", b"0 2 0AFF\n", b"0 2 0aff\n\n", b"0 2 0aff\n0 2 0aff\n", b"0  2 0aff\n", b"11 0 -\n", b"010 0 -\n",
                         b"07 0 -\n", b"a 0 -\n", b"0 02 0aff\n", b"0 1 0aff\n", b"0 2 -\n", b"0 0 \n", b"6 2 0aff\n", b"6 2 -\n",
-                        b"7 2 0aff\n", b"8 2 -\n", b"0 2 0af\n", b"0 2 0aff \n", b"0 2 0aff\r\n", b"\xff"):
+                        b"7 2 0aff\n", b"8 2 -\n", b"10 2 0aff\n", b"0 2 0af\n", b"0 2 0aff \n", b"0 2 0aff\r\n", b"\xff"):
             with self.subTest(printed), self.assertRaises(Trouble):
                 sealjob.answer_of(printed)
 

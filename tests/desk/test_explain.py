@@ -5,12 +5,14 @@ import shlex
 import subprocess
 
 import support
-from explain import ORDER
+from explain import BODY_LIMIT, HEADER_LIMIT, ORDER
 from schemes import KEY, SCHEMES
+from test_schemes import by_scheme
 
 TITLES = {
     0: "done", 1: "no such scheme", 2: "key of a wrong length", 3: "header too long", 4: "sealed run shorter than a block",
     5: "room shorter than the output", 6: "not authentic", 7: "nonce of a wrong length", 8: "body too long", 9: "not a job",
+    10: "header and body both empty",
 }
 
 
@@ -23,25 +25,25 @@ class Explain(support.DeskTest):
         for number, title in TITLES.items():
             with self.subTest(number):
                 shown = self.done("explain", str(number), program="false")
-                self.assertTrue(shown.startswith(f"{number}  {title}\n"), shown)
+                self.assertTrue(shown.startswith(f"{number:<2} {title}\n"), shown)
                 for label in ("It says", "Check next", "Left behind"):
                     self.assertRegex(shown, f"\n  {label}  +[A-Z0-9]")
 
     def test_what_the_room_holds(self):
-        for number in (1, 2, 3, 4, 5, 7, 8):
+        for number in (1, 2, 3, 4, 5, 7, 8, 10):
             self.assertIn("is unchanged, every", self.explained(number))
         self.assertIn("as many zero bytes at its front", self.explained(6))
 
     def test_key_and_nonce(self):
         self.assertIn(f"A key has {KEY} bytes under every scheme.", self.explained(2))
-        for number, scheme in SCHEMES.items():
-            self.assertRegex(self.explained(7), f" {scheme.nonce} (bytes )?under scheme {number}[,.]")
+        self.assertEqual(by_scheme(self.explained(7)), {number: scheme.nonce for number, scheme in SCHEMES.items()})
+
+    def test_short_run(self):
+        self.assertEqual(by_scheme(self.explained(4)), {number: scheme.block for number, scheme in SCHEMES.items()})
 
     def test_header_and_body(self):
-        """Both have the same limit, and no job is long enough for either number."""
-        small, large = (f"{8191 * SCHEMES[scheme].block:,}" for scheme in (1, 2))
-        limit = f"{small} bytes at most under scheme 1, {large} under scheme 2 (both 8,191 blocks), {2**20:,} under scheme 3."
-        for number, name in ((3, "header"), (8, "body")):
+        """No job is long enough for either number."""
+        for number, name, limit in ((3, "header", HEADER_LIMIT), (8, "body", BODY_LIMIT)):
             shown = self.explained(number)
             self.assertIn(f"A {name} has {limit}", shown)
             self.assertIn("Only a call from C gets this number: a job ends at 16,384 bytes", shown)
@@ -52,13 +54,13 @@ class Explain(support.DeskTest):
         self.assertIn("Nothing is said of the body: with the header put right, 8 may follow.", self.explained(3))
 
     def test_all(self):
-        titles = "".join(f"{number}  {title}\n" for number, title in TITLES.items())
+        titles = "".join(f"{number:<2} {title}\n" for number, title in TITLES.items())
         self.assertEqual(self.done("explain", program="false"), f"{titles}{ORDER}\n")
 
     def test_no_number(self):
-        for text in ("10", "77", "six", "", "-", "-1", "6.0"):
+        for text in ("11", "77", "100", "six", "", "-", "-1", "6.0"):
             with self.subTest(text):
-                self.complains("is no answer number; they are 0 to 9", "explain", text)
+                self.complains("is no answer number; they are 0 to 10", "explain", text)
 
     def test_zeros_before_a_number(self):
         self.assertEqual(self.done("explain", "006", program="false"), self.done("explain", "6", program="false"))

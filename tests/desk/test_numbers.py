@@ -21,13 +21,13 @@ def numbers(pattern, text):
 
 def defined():
     """From the list of checks that the proofs are about."""
-    lengths = numbers(r"^ .*\bwhen .* (\d+)$", between("crates/sealing/specs/Checks.antt", "\nchecks s ", "[]"))
+    lengths = numbers(r"^ .*\bwhen .* (\d+)$", between("crates/schemes/specs/Checks.antt", "\nchecks s ", "[]"))
     return [JOB, SCHEME, *lengths, FORGED, DONE]
 
 
 class Numbers(unittest.TestCase):
     def test_definition(self):
-        self.assertEqual(defined(), [9, 1, 2, 7, 3, 8, 4, 5, 6, 0])
+        self.assertEqual(defined(), [9, 1, 2, 7, 3, 8, 4, 5, 10, 6, 0])
 
     def test_header(self):
         answers = between("include/auraski.h", "/* Answers", "/* Seals")

@@ -43,20 +43,20 @@ a.job: seal, scheme 2, header 16 bytes, body 6 bytes
 
     def test_without_expectation(self):
         self.write("done.sheet", SHEET)
-        self.write("refused.sheet", SHEET.replace("scheme 2", "scheme 4"))
+        self.write("refused.sheet", SHEET.replace("scheme 2", "scheme 8"))
         self.assertIn("1 job: 1 done.", self.done("run", "done.sheet"))
         self.assertIn("2 jobs: 1 done, 1 refused.", self.done("run", "done.sheet", "refused.sheet", status=1))
 
     def test_refusal_expected(self):
-        self.write("a.sheet", SHEET.replace("scheme 2", "scheme 4") + "expect 1\n")
-        self.assertIn("there are 1, 2 and 3 (as expected)", self.done("run", "a.sheet"))
+        self.write("a.sheet", SHEET.replace("scheme 2", "scheme 8") + "expect 1\n")
+        self.assertIn("there are 1 to 7 (as expected)", self.done("run", "a.sheet"))
 
     def test_not_as_expected(self):
         for text, verdict in (
             (SHEET + "expect 6\n", "answer 6"),
             (SHEET + "expect 0\noutput -\n", "0 0 -"),
             (EXPECTED.replace("output 8f", "output 8e"), f"0 22 8e{SEALED[2:]}"),
-            (EXPECTED.replace("scheme 2", "scheme 4"), f"0 22 {SEALED}"),
+            (EXPECTED.replace("scheme 2", "scheme 8"), f"0 22 {SEALED}"),
         ):
             with self.subTest(verdict):
                 self.write("a.sheet", text)

@@ -27,7 +27,7 @@ class Samples(support.DeskTest):
                 self.assertEqual(sheet.output is not None, sheet.expect == 0)
 
     def test_numbers(self):
-        self.assertEqual({sheet.expect for sheet in self.sheets}, {0, 1, 2, 4, 6, 7})
+        self.assertEqual({sheet.expect for sheet in self.sheets}, {0, 1, 2, 4, 6, 7, 10})
 
     def test_wrong_lengths(self):
         """The key's alone, the nonce's alone, and both."""
@@ -35,22 +35,39 @@ class Samples(support.DeskTest):
         right = {(len(s.job.key) == KEY, len(s.job.nonce) == SCHEMES[s.job.scheme].nonce): s.expect for s in refused}
         self.assertEqual(right, {(False, True): 2, (True, False): 7, (False, False): 2})
 
-    def opened(self, sealing, header):
-        """The answers that sheets expect to a sealing's run under a header."""
-        key = (sealing.job.scheme, OPEN, sealing.job.key, sealing.job.nonce, header, sealing.output)
-        return [sheet.expect for sheet in self.sheets if sheet.job == key]
+    def sealings(self, scheme):
+        """Of bodies that are not empty."""
+        return [s for s in self.sheets if s.job.direction == SEAL and s.job.scheme == scheme and s.output and s.job.body]
+
+    def opened(self, sealing, **changed):
+        """The answers that sheets expect to a sealing's run, with other values where they are given."""
+        job = sealing.job._replace(direction=OPEN, body=sealing.output, **changed)
+        return [sheet.expect for sheet in self.sheets if sheet.job == job]
 
     def test_the_accident(self):
         """Fifteen bytes and the same with 80 added: each run opens under its own and is refused under the other."""
         for scheme in (1, 2, 3):
-            sealings = [s for s in self.sheets if s.job.direction == SEAL and s.job.scheme == scheme and s.output and s.job.body]
+            sealings = self.sealings(scheme)
             self.assertEqual({len(s.job.header) for s in sealings}, {15, 16})
             for sealing in sealings:
                 own = sealing.job.header
                 other = own[:15] if len(own) == 16 else own + b"\x80"
                 self.assertEqual(other[:15] + b"\x80", own[:15] + b"\x80")
-                self.assertEqual(self.opened(sealing, other), [6])
-                self.assertEqual(self.opened(sealing, own), [0] if scheme == 2 else [])
+                self.assertEqual(self.opened(sealing, header=other), [6])
+                self.assertEqual(self.opened(sealing), [0] if scheme == 2 else [])
+
+    def test_umbreon_and_jolteon(self):
+        """A run opens under its own scheme; one whose body has at most a block is opened under the other mode's."""
+        for scheme in (4, 5, 6, 7):
+            long = [s for s in self.sealings(scheme) if len(s.job.body) > SCHEMES[scheme].block]
+            self.assertEqual([self.opened(s) for s in long], [[0]])
+        (short,) = (s for s in self.sealings(4) if len(s.job.body) <= SCHEMES[4].block)
+        self.assertEqual(self.opened(short, scheme=5), [0])
+
+    def test_nothing(self):
+        refused = [s.job for s in self.sheets if s.expect == 10]
+        self.assertEqual([job.header for job in refused], [b"", b""])
+        self.assertEqual([(job.direction, len(job.body)) for job in refused], [(SEAL, 0), (OPEN, SCHEMES[refused[1].scheme].block)])
 
     def test_no_nonce_twice(self):
         used = [(s.job.key, s.job.nonce) for s in self.sheets if s.job.direction == SEAL]

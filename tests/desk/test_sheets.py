@@ -61,7 +61,7 @@ class Sheets(support.DeskTest):
 
     def test_expected(self):
         self.assertEqual([sheet_of("s", f"{SMALL}{REST}expect {number}").expect for number in range(10)], list(range(10)))
-        self.refuses("a.sheet, line 5: expect: '10' is not a number from 0 to 9", SMALL + "expect 10\n" + REST)
+        self.refuses("a.sheet, line 5: expect: '11' is not a number from 0 to 10", SMALL + "expect 11\n" + REST)
         self.refuses("a.sheet, line 5: expect: 'no' is not a number", SMALL + "expect no\n" + REST)
         self.refuses("a.sheet, line 6: output: only with 'expect 0'", SMALL + "expect 6\noutput 01\n" + REST)
         self.refuses("a.sheet, line 5: output: only with 'expect 0'", SMALL + "output 01\n" + REST)

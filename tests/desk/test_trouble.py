@@ -94,7 +94,7 @@ class Sealjob(support.DeskTest):
         self.complains("status -9", *SEAL, program=self.stand_in("kill -9 $$"))
 
     def test_prints_something_else(self):
-        for script in ("true", "echo", "echo hello", "echo '10 0 -'", "echo '6 0 -'; echo '6 0 -'", "printf '6 0 -'"):
+        for script in ("true", "echo", "echo hello", "echo '11 0 -'", "echo '6 0 -'; echo '6 0 -'", "printf '6 0 -'"):
             with self.subTest(script):
                 self.assertEqual(self.complains("printed something that is no answer", *SEAL, program=self.stand_in(script)), "")
         for script in ("echo '0 2 00'", "echo '6 1 00'"):
@@ -108,7 +108,7 @@ class Sealjob(support.DeskTest):
         self.assertIn("answer   9 0 -\n", ended.stdout)
 
     def test_all_answers(self):
-        for number in range(1, 10):
+        for number in range(1, 11):
             shown = self.done(*SEAL, status=1, program=self.stand_in(f"echo '{number} 0 -'"))
             self.assertIn(f"answer   {number} 0 -\nmeaning  refused, ", shown)
 
