@@ -8,13 +8,21 @@
 struct scheme {
     uint32_t number;
     const char *name;
-    size_t block, limit;
+    size_t block, header_limit, body_limit;
 };
 
 static const struct scheme schemes[] = {
-    {AURASKI_PAEF_64_192, "PAEF over 64-192", AURASKI_PAEF_64_192_BLOCK, AURASKI_PAEF_64_192_LIMIT},
-    {AURASKI_PAEF_128_256, "PAEF over 128-256", AURASKI_PAEF_128_256_BLOCK, AURASKI_PAEF_128_256_LIMIT},
-    {AURASKI_SAEF_128_256, "SAEF over 128-256", AURASKI_SAEF_128_256_BLOCK, AURASKI_SAEF_128_256_LIMIT},
+    {AURASKI_PAEF_64_192, "PAEF over 64-192", AURASKI_PAEF_64_192_BLOCK, AURASKI_PAEF_64_192_LIMIT, AURASKI_PAEF_64_192_LIMIT},
+    {AURASKI_PAEF_128_256, "PAEF over 128-256", AURASKI_PAEF_128_256_BLOCK, AURASKI_PAEF_128_256_LIMIT, AURASKI_PAEF_128_256_LIMIT},
+    {AURASKI_SAEF_128_256, "SAEF over 128-256", AURASKI_SAEF_128_256_BLOCK, AURASKI_SAEF_128_256_LIMIT, AURASKI_SAEF_128_256_LIMIT},
+    {AURASKI_UMBREON_64_192, "Umbreon over 64-192", AURASKI_UMBREON_64_192_BLOCK, AURASKI_UMBREON_64_192_HEADER_LIMIT,
+     AURASKI_UMBREON_64_192_BODY_LIMIT},
+    {AURASKI_JOLTEON_64_192, "Jolteon over 64-192", AURASKI_JOLTEON_64_192_BLOCK, AURASKI_JOLTEON_64_192_HEADER_LIMIT,
+     AURASKI_JOLTEON_64_192_BODY_LIMIT},
+    {AURASKI_UMBREON_128_256, "Umbreon over 128-256", AURASKI_UMBREON_128_256_BLOCK, AURASKI_UMBREON_128_256_HEADER_LIMIT,
+     AURASKI_UMBREON_128_256_BODY_LIMIT},
+    {AURASKI_JOLTEON_128_256, "Jolteon over 128-256", AURASKI_JOLTEON_128_256_BLOCK, AURASKI_JOLTEON_128_256_HEADER_LIMIT,
+     AURASKI_JOLTEON_128_256_BODY_LIMIT},
 };
 
 /* Lengths in bytes; after these comes the longest that the scheme takes. */
@@ -43,17 +51,20 @@ static void put_number(int places, uint64_t value)
 
 /* ---- the sheet ---- */
 
-/* The rounds of a record that the scheme takes. */
-static uint32_t rounds_of(const struct scheme *scheme, size_t header_len, size_t body_len)
+/* The rounds of a record within the limits; a dash where header and body are both empty and the scheme does not take that. */
+static void put_rounds(const struct scheme *scheme, size_t header_len, size_t body_len)
 {
     uint32_t rounds;
     uint32_t number = auraski_rounds(scheme->number, header_len, body_len, &rounds);
 
-    if (number != AURASKI_DONE) {
+    if (number == AURASKI_DONE) {
+        put_number(11, rounds);
+    } else if (number == AURASKI_NOTHING) {
+        printf("%11s", "-");
+    } else {
         fprintf(stderr, "rounds: lengths within the limits are refused with %u\n", (unsigned)number);
         exit(1);
     }
-    return rounds;
 }
 
 static void put_row(const struct scheme *scheme, size_t header_len)
@@ -61,8 +72,8 @@ static void put_row(const struct scheme *scheme, size_t header_len)
     put_number(9, header_len);
     printf(" |");
     for (size_t i = 0; i < COUNT(bodies); i++)
-        put_number(11, rounds_of(scheme, header_len, bodies[i]));
-    put_number(11, rounds_of(scheme, header_len, scheme->limit));
+        put_rounds(scheme, header_len, bodies[i]);
+    put_rounds(scheme, header_len, scheme->body_limit);
     printf("\n");
 }
 
@@ -72,11 +83,11 @@ static void put_sheet(const struct scheme *scheme)
     printf("   header | body\n          |");
     for (size_t i = 0; i < COUNT(bodies); i++)
         put_number(11, bodies[i]);
-    put_number(11, scheme->limit);
+    put_number(11, scheme->body_limit);
     printf("\n----------+----------------------------------------------------------------------------------------\n");
     for (size_t i = 0; i < COUNT(headers); i++)
         put_row(scheme, headers[i]);
-    put_row(scheme, scheme->limit);
+    put_row(scheme, scheme->header_limit);
 }
 
 /* ---- a batch of opens ---- */
@@ -147,7 +158,7 @@ static void put_refusal(const char *what, uint32_t scheme, size_t header_len, si
 
 int main(void)
 {
-    printf("Rounds of ForkSkinny to seal a record, or to open its run. Lengths are in bytes.\n");
+    printf("Rounds of ForkSkinny to seal a record, or to open its run. Lengths are in bytes. A dash: refused, see the end.\n");
     for (size_t i = 0; i < COUNT(schemes); i++)
         put_sheet(&schemes[i]);
     put_batch(&schemes[1]);
@@ -156,6 +167,7 @@ int main(void)
                 AURASKI_HEADER_TOO_LONG);
     put_refusal("scheme 2, body one byte longer than it takes", AURASKI_PAEF_128_256, 16, AURASKI_PAEF_128_256_LIMIT + 1,
                 AURASKI_BODY_TOO_LONG);
+    put_refusal("scheme 6, header and body both empty", AURASKI_UMBREON_128_256, 0, 0, AURASKI_NOTHING);
     put_refusal("scheme 0, which there is not", 0, 16, 64, AURASKI_UNKNOWN);
     return 0;
 }
