@@ -20,8 +20,8 @@ KINDS = {
     "half 0": "one", "both halves": "both", "from half 0 the input": "one", "from half 0 both results": "both",
 }
 NOTHING = ("refused", "nothing", "nothing more")
-# Both lists of the page: the modes of their columns, and the definitions that cite the figures' lines for them.
-LISTS = ({"PAEF": ("Paef",), "SAEF": ("Saef",)}, {"Umbreon": ("Eevee", "Umbreon"), "Jolteon": ("Eevee", "Jolteon")})
+# Of the page's two lists, mode by mode: the definitions that cite the figures' lines.
+LISTS = ((("Paef",), ("Saef",)), (("Eevee", "Umbreon"), ("Eevee", "Jolteon")))
 
 
 def text_of(name):
@@ -147,7 +147,7 @@ class Page(RoundsTest):
     def test_lines(self):
         """The figures' lines are those that the modes cite where they say what a block asks for."""
         for rows, modes in zip(tables("The list"), LISTS):
-            for at, files in enumerate(modes.values(), 1):
+            for at, files in enumerate(modes, 1):
                 cited = re.findall(r"F\^\{\S+\} \((.*?)\)", "".join(text_of(f"crates/modes/specs/{name}.antt") for name in files))
                 named = [row[at] for row in rows if row[3] not in NOTHING]
                 self.assertEqual(*(set(numbers(r"\d+", " ".join(lines))) for lines in (named, cited)), files)

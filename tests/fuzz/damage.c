@@ -27,7 +27,7 @@ static void resize(struct field *f, size_t size, struct random *d)
 
 static void change_scheme(struct record *r, struct random *d)
 {
-    r->scheme = some_number(d, 1, 3);
+    r->scheme = some_number(d, 1, SCHEMES);
     if (one_in(d, 2)) {
         resize(&r->nonce, fitting(r, d)->nonce, d);
     }
@@ -36,10 +36,17 @@ static void change_scheme(struct record *r, struct random *d)
 static void make_too_long(struct record *r, const struct scheme *scheme, struct random *d)
 {
     if (one_in(d, 2)) {
-        resize(&r->header, scheme->limit + 1, d);
+        resize(&r->header, scheme->header_limit + 1, d);
     } else {
-        resize(&r->text, scheme->limit + scheme->block + 1, d);
+        resize(&r->text, scheme->body_limit + scheme->block + 1, d);
     }
+}
+
+/* A run of an empty body under an empty header. */
+static void make_nothing(struct record *r, const struct scheme *scheme, struct random *d)
+{
+    resize(&r->header, 0, d);
+    resize(&r->text, scheme->block, d);
 }
 
 void damage(struct record *r, struct random *d)
@@ -50,11 +57,11 @@ void damage(struct record *r, struct random *d)
         make_vast(r, d);
         return;
     }
-    if (past_limit(scheme, d)) {
+    if (past_limit(scheme->body_limit, d)) {
         make_too_long(r, scheme, d);
         return;
     }
-    switch (below(d, 10)) {
+    switch (below(d, 11)) {
     case 0:
         change_scheme(r, d);
         break;
@@ -74,7 +81,10 @@ void damage(struct record *r, struct random *d)
         resize(&r->text, scheme->block + below(d, 40), d);
         break;
     case 6:
+        make_nothing(r, scheme, d);
+        break;
     case 7:
+    case 8:
         flip_bit(some, d);
         break;
     default:

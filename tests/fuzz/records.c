@@ -28,7 +28,7 @@ struct field *some_field(struct record *r, struct random *d)
 const struct scheme *fitting(const struct record *r, struct random *d)
 {
     const struct scheme *scheme = scheme_of(r->scheme);
-    return scheme != NULL ? scheme : scheme_of(1 + (uint32_t)below(d, 3));
+    return scheme != NULL ? scheme : scheme_of(1 + (uint32_t)below(d, SCHEMES));
 }
 
 static size_t some_size(size_t right, struct random *d)
@@ -45,25 +45,28 @@ static size_t some_size(size_t right, struct random *d)
     }
 }
 
-int past_limit(const struct scheme *scheme, struct random *d)
+int past_limit(size_t limit, struct random *d)
 {
-    return one_in(d, scheme->limit / 1000);
+    return one_in(d, limit / 1000);
 }
 
-/* Mostly short and about the edges of blocks, sometimes thousands or past the limit, rarely at the limit: the longer that is, the longer a
- * call takes, and the rarer it has to be, so that one scheme's limit does not take most of the time. */
-static size_t some_length(const struct scheme *scheme, struct random *d)
+/* Mostly short and about the edges of blocks, sometimes none, thousands or past the limit, rarely at the limit: the longer that is, the longer
+ * a call takes, and the rarer it has to be, so that one scheme's limit does not take most of the time. */
+static size_t some_length(size_t limit, size_t block, struct random *d)
 {
-    if (one_in(d, scheme->limit / 20)) {
-        return scheme->limit;
+    if (one_in(d, limit / 20)) {
+        return limit;
     }
-    if (past_limit(scheme, d)) {
-        return scheme->limit + 1 + (one_in(d, 2) ? 0 : below(d, 1000));
+    if (past_limit(limit, d)) {
+        return limit + 1 + (one_in(d, 2) ? 0 : below(d, 1000));
     }
     if (one_in(d, 200)) {
         return below(d, 6000);
     }
-    return one_in(d, 2) ? below(d, 80) : scheme->block * (1 + below(d, 4)) - 1 + below(d, 3);
+    if (one_in(d, 10)) {
+        return 0;
+    }
+    return one_in(d, 2) ? below(d, 80) : block * (1 + below(d, 4)) - 1 + below(d, 3);
 }
 
 static void draw_field(struct field *f, size_t size, struct random *d)
@@ -74,12 +77,12 @@ static void draw_field(struct field *f, size_t size, struct random *d)
 
 void draw_record(struct record *r, struct random *d)
 {
-    r->scheme = some_number(d, 1, 3);
+    r->scheme = some_number(d, 1, SCHEMES);
     const struct scheme *scheme = fitting(r, d);
     draw_field(&r->key, some_size(KEY_SIZE, d), d);
     draw_field(&r->nonce, some_size(scheme->nonce, d), d);
-    draw_field(&r->header, some_length(scheme, d), d);
-    draw_field(&r->text, some_length(scheme, d), d);
+    draw_field(&r->header, some_length(scheme->header_limit, scheme->block, d), d);
+    draw_field(&r->text, some_length(scheme->body_limit, scheme->block, d), d);
     if (one_in(d, 500)) {
         make_vast(r, d);
     }
@@ -89,7 +92,8 @@ void draw_run(struct record *r, struct random *d)
 {
     const struct scheme *scheme = fitting(r, d);
     size_t vast = r->text.size - held(&r->text);
-    draw_field(&r->text, one_in(d, 4) ? below(d, scheme->block) : some_length(scheme, d) + scheme->block, d);
+    size_t body = some_length(scheme->body_limit, scheme->block, d);
+    draw_field(&r->text, one_in(d, 4) ? below(d, scheme->block) : body + scheme->block, d);
     r->text.size += vast;
 }
 
@@ -113,8 +117,10 @@ static int same_field(const struct field *a, const struct field *b)
     return a->size == b->size && memcmp(a->bytes, b->bytes, held(a)) == 0;
 }
 
-int same_record(const struct record *a, const struct record *b)
+int opens_alike(const struct record *changed, const struct record *sealed)
 {
-    return a->scheme == b->scheme && same_field(&a->key, &b->key) && same_field(&a->nonce, &b->nonce) &&
-           same_field(&a->header, &b->header) && same_field(&a->text, &b->text);
+    size_t body = sealed->text.size - scheme_of(sealed->scheme)->block;
+    return same_run(changed->scheme, sealed->scheme, body) && same_field(&changed->key, &sealed->key) &&
+           same_field(&changed->nonce, &sealed->nonce) && same_field(&changed->header, &sealed->header) &&
+           same_field(&changed->text, &sealed->text);
 }

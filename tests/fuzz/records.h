@@ -16,8 +16,8 @@ struct field *some_field(struct record *r, struct random *d);
 /* The scheme that sizes are drawn for: the record's, or some known one if there is no such scheme. */
 const struct scheme *fitting(const struct record *r, struct random *d);
 
-/* Whether a length shall be past the limit: the more rarely the higher that is, since there are as many bytes to fill and to watch. */
-int past_limit(const struct scheme *scheme, struct random *d);
+/* Whether a length shall be past its limit: the more rarely the higher that is, since there are as many bytes to fill and to watch. */
+int past_limit(size_t limit, struct random *d);
 
 /* A record to be sealed. */
 void draw_record(struct record *r, struct random *d);
@@ -26,6 +26,8 @@ void draw_record(struct record *r, struct random *d);
 void draw_run(struct record *r, struct random *d);
 
 void copy_record(struct record *to, const struct record *from);
-int same_record(const struct record *a, const struct record *b);
+
+/* Whether a changed record opens as the sealed one that it was: nothing did change, or the scheme alone, and that makes the same run. */
+int opens_alike(const struct record *changed, const struct record *sealed);
 
 #endif

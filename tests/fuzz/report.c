@@ -8,12 +8,23 @@
 #include <string.h>
 #include <unistd.h>
 
-enum { NUMBERS = 9, LONGEST_CASE_SECONDS = 300 };
+enum { NUMBERS = 11, NO_MORE = -1, LONGEST_CASE_SECONDS = 300 };
 
 static const char *const names[ENTRIES] = {"seal",    "open",          "rounds",        "fork",          "unfork",
                                            "prepare", "seal_prepared", "open_prepared", "fork_prepared", "unfork_prepared"};
 /* The numbers that each can answer. */
-static const char *const can_answer[ENTRIES] = {"0123578", "012345678", "0138", "01", "01", "012", "0123578", "012345678", "012", "012"};
+static const int can_answer[ENTRIES][NUMBERS] = {
+    [SEAL] = {0, 1, 2, 3, 5, 7, 8, 10, NO_MORE},
+    [OPEN] = {0, 1, 2, 3, 4, 5, 6, 7, 8, 10, NO_MORE},
+    [ROUNDS] = {0, 1, 3, 8, 10, NO_MORE},
+    [FORK] = {0, 1, NO_MORE},
+    [UNFORK] = {0, 1, NO_MORE},
+    [PREPARE] = {0, 1, 2, NO_MORE},
+    [SEAL_PREPARED] = {0, 1, 2, 3, 5, 7, 8, 10, NO_MORE},
+    [OPEN_PREPARED] = {0, 1, 2, 3, 4, 5, 6, 7, 8, 10, NO_MORE},
+    [FORK_PREPARED] = {0, 1, 2, NO_MORE},
+    [UNFORK_PREPARED] = {0, 1, 2, NO_MORE},
+};
 
 static uint64_t answers[ENTRIES][NUMBERS];
 static int runs_alone;
@@ -98,9 +109,9 @@ int report_end(uint64_t seed, uint64_t cases)
             calls += answers[entry][number];
         }
         printf("; %s %" PRIu64 " calls:", names[entry], calls);
-        for (const char *digit = can_answer[entry]; *digit != '\0'; digit++) {
-            uint64_t times = answers[entry][*digit - '0'];
-            printf(" %c x%" PRIu64, *digit, times);
+        for (const int *number = can_answer[entry]; *number != NO_MORE; number++) {
+            uint64_t times = answers[entry][*number];
+            printf(" %d x%" PRIu64, *number, times);
             missing |= times == 0;
         }
     }

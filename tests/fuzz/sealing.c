@@ -162,6 +162,6 @@ void sealing_case(struct random *d)
     for (size_t opens = 1 + below(d, 3); opens > 0; opens--) {
         copy_record(&changed, &sealed);
         damage(&changed, d);
-        open_some(&changed, same_record(&changed, &sealed) ? &record.text : NULL, d);
+        open_some(&changed, opens_alike(&changed, &sealed) ? &record.text : NULL, d);
     }
 }

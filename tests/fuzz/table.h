@@ -1,21 +1,25 @@
-/* What document 01 ("What a caller is told", with the refusals of request C-11, the limits of C-12 and the prepared keys of C-16) says of a
- * call of seal or open, and what C-13 says of their rounds, worked out from scheme and sizes alone. */
+/* What document 01 ("What a caller is told", with the refusals of request C-11, the limits of C-12, the schemes of C-14 and the prepared keys of
+ * C-16) says of a call of seal or open, and what C-13 says of their rounds, worked out from scheme and sizes alone. */
 #ifndef FUZZ_TABLE_H
 #define FUZZ_TABLE_H
 
 #include "guarded.h"
 
-/* Under every scheme. */
-enum { KEY_SIZE = 16 };
+/* They are numbered from 1. A key has the same size under each. */
+enum { SCHEMES = 7, KEY_SIZE = 16 };
 
 struct scheme {
     uint32_t cipher;
-    size_t block, nonce, limit;
-    uint32_t one, both; /* the rounds of a block call for half 0, and for two results */
+    size_t block, nonce, header_limit, body_limit;
+    uint32_t head, body, last; /* the rounds of a header block, of a body block that is not the last, and of that */
+    int takes_nothing;         /* whether header and body may both be empty */
 };
 
 /* NULL if there is no such scheme. */
 const struct scheme *scheme_of(uint32_t number);
+
+/* Whether two schemes make the same run of a body of so many bytes, and open it alike: Umbreon and Jolteon do, up to one block. */
+int same_run(uint32_t a, uint32_t b, size_t body);
 
 struct field {
     size_t size;
