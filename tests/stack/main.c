@@ -1,5 +1,5 @@
 /* The stack that each entry point takes, on records of several lengths and on calls that are refused. Fails if one takes more than the bound,
- * or if the longest record takes another stack than an empty one. */
+ * or if the longest record takes another stack than the shortest. */
 #include "tables.h"
 #include "take.h"
 

@@ -10,18 +10,39 @@ static uint32_t rounds;
 
 typedef struct {
     uint32_t scheme, cipher;
-    size_t block, key, nonce, most;
+    size_t block, key, nonce;
     const uint8_t *prepared;
+    size_t least, header, body; /* bytes of header and body in the shortest record; of the longest header, and of the longest body */
 } Scheme;
 
-static const Scheme SCHEMES[3] = {
-    {AURASKI_PAEF_64_192, AURASKI_64_192, AURASKI_PAEF_64_192_BLOCK, AURASKI_KEY_BYTES, AURASKI_PAEF_64_192_NONCE,
-     AURASKI_PAEF_64_192_LIMIT, prepared[AURASKI_64_192]},
-    {AURASKI_PAEF_128_256, AURASKI_128_256, AURASKI_PAEF_128_256_BLOCK, AURASKI_KEY_BYTES, AURASKI_PAEF_128_256_NONCE,
-     AURASKI_PAEF_128_256_LIMIT, prepared[AURASKI_128_256]},
-    {AURASKI_SAEF_128_256, AURASKI_128_256, AURASKI_SAEF_128_256_BLOCK, AURASKI_KEY_BYTES, AURASKI_SAEF_128_256_NONCE,
-     AURASKI_SAEF_128_256_LIMIT, prepared[AURASKI_128_256]},
+#define SIZES(MODE, CIPHER)                                                                                                \
+    AURASKI_##MODE##_##CIPHER, AURASKI_##CIPHER, AURASKI_##MODE##_##CIPHER##_BLOCK, AURASKI_KEY_BYTES,                     \
+        AURASKI_##MODE##_##CIPHER##_NONCE, prepared[AURASKI_##CIPHER]
+
+enum { SCHEMES = 7 };
+static const Scheme schemes[SCHEMES] = {
+    {SIZES(PAEF, 64_192), 0, AURASKI_PAEF_64_192_LIMIT, AURASKI_PAEF_64_192_LIMIT},
+    {SIZES(PAEF, 128_256), 0, AURASKI_PAEF_128_256_LIMIT, AURASKI_PAEF_128_256_LIMIT},
+    {SIZES(SAEF, 128_256), 0, AURASKI_SAEF_128_256_LIMIT, AURASKI_SAEF_128_256_LIMIT},
+    {SIZES(UMBREON, 64_192), 1, AURASKI_UMBREON_64_192_HEADER_LIMIT, AURASKI_UMBREON_64_192_BODY_LIMIT},
+    {SIZES(JOLTEON, 64_192), 1, AURASKI_JOLTEON_64_192_HEADER_LIMIT, AURASKI_JOLTEON_64_192_BODY_LIMIT},
+    {SIZES(UMBREON, 128_256), 1, AURASKI_UMBREON_128_256_HEADER_LIMIT, AURASKI_UMBREON_128_256_BODY_LIMIT},
+    {SIZES(JOLTEON, 128_256), 1, AURASKI_JOLTEON_128_256_HEADER_LIMIT, AURASKI_JOLTEON_128_256_BODY_LIMIT},
 };
+
+/* Bytes of the records that are taken: the shortest, three blocks and a byte of each, and the longest. */
+enum { RECORDS = 3 };
+typedef struct {
+    size_t header, body;
+} Lengths;
+
+static void lengths_of(const Scheme *scheme, Lengths lengths[RECORDS])
+{
+    size_t four = 3 * scheme->block + 1;
+    lengths[0] = (Lengths){scheme->least, scheme->least};
+    lengths[1] = (Lengths){four, four};
+    lengths[2] = (Lengths){scheme->header, scheme->body};
+}
 
 /* ---- seal and open ---- */
 
@@ -71,19 +92,25 @@ static const Way WAYS[2] = {
 };
 
 /* A record sealed, its run opened, and refused with 6 for its last byte. */
-static void take_record(const Way *way, const Scheme *scheme, size_t bytes, size_t *sealing, size_t *opening)
+static void take_record(const Way *way, const Scheme *scheme, const Lengths *of, size_t *sealing, size_t *opening)
 {
-    size_t run_len = bytes + scheme->block;
-    Call seal = way->seal(scheme, bytes, bytes, run_len), open = way->open(scheme, bytes, run_len, bytes);
+    size_t run_len = of->body + scheme->block;
+    Call seal = way->seal(scheme, of->header, of->body, run_len), open = way->open(scheme, of->header, run_len, of->body);
     *sealing = take(way->seal_name, &seal, AURASKI_DONE);
     memcpy(run, room, run_len);
     *opening = take(way->open_name, &open, AURASKI_DONE);
-    if (memcmp(room, body, bytes) != 0) {
-        printf("stack: scheme %u, %zu bytes: not the body that was sealed\n", (unsigned)scheme->scheme, bytes);
+    if (memcmp(room, body, of->body) != 0) {
+        printf("stack: scheme %u, %zu bytes: not the body that was sealed\n", (unsigned)scheme->scheme, of->body);
         failures++;
     }
     run[run_len - 1] ^= 1;
     *opening = greater(*opening, take(way->open_name, &open, AURASKI_FORGED));
+}
+
+/* How many of so many refusals, the last of which is that header and body are both empty. */
+static int refusals(const Scheme *scheme, int all)
+{
+    return scheme->least == 0 ? all - 1 : all;
 }
 
 /* Refusals before any block: the greatest. The text is `more` bytes longer than the body. */
@@ -91,16 +118,20 @@ static size_t take_refused(const char *name, Making *call_of, const Scheme *sche
 {
     Scheme unknown = *scheme, wrong_key = *scheme, long_nonce = *scheme;
     size_t text_len = 16 + more, most = 0;
-    unknown.scheme = 4;
+    unknown.scheme = SCHEMES + 1;
     wrong_key.key--;
     wrong_key.prepared = damaged[scheme->cipher];
     long_nonce.nonce++;
-    const Call calls[6] = {call_of(&unknown, 16, text_len, 32), call_of(&wrong_key, 16, text_len, 32),
-                           call_of(&long_nonce, 16, text_len, 32), call_of(scheme, scheme->most + 1, text_len, 32),
-                           call_of(scheme, 16, scheme->most + 1 + more, 32), call_of(scheme, 16, text_len, 15)};
-    const uint32_t answers[6] = {AURASKI_UNKNOWN, AURASKI_WRONG_KEY_LENGTH, AURASKI_WRONG_NONCE_LENGTH, AURASKI_HEADER_TOO_LONG,
-                                 AURASKI_BODY_TOO_LONG, AURASKI_ROOM};
-    for (int i = 0; i < 6; i++)
+    const Call calls[7] = {call_of(&unknown, 16, text_len, 32),
+                           call_of(&wrong_key, 16, text_len, 32),
+                           call_of(&long_nonce, 16, text_len, 32),
+                           call_of(scheme, scheme->header + 1, text_len, 32),
+                           call_of(scheme, 16, scheme->body + 1 + more, 32),
+                           call_of(scheme, 16, text_len, 15),
+                           call_of(scheme, 0, more, 32)};
+    const uint32_t answers[7] = {AURASKI_UNKNOWN,       AURASKI_WRONG_KEY_LENGTH, AURASKI_WRONG_NONCE_LENGTH, AURASKI_HEADER_TOO_LONG,
+                                 AURASKI_BODY_TOO_LONG, AURASKI_ROOM,             AURASKI_NOTHING};
+    for (int i = 0; i < refusals(scheme, 7); i++)
         most = greater(most, take(name, &calls[i], answers[i]));
     return most;
 }
@@ -112,19 +143,19 @@ static size_t take_refused_opens(const Way *way, const Scheme *scheme)
     return greater(most, take_refused(way->open_name, way->open, scheme, scheme->block));
 }
 
-/* Header and body empty, of three blocks and a byte, and of the longest. */
 static size_t take_scheme(const Way *way, const Scheme *scheme)
 {
-    const size_t lengths[3] = {0, 3 * scheme->block + 1, scheme->most};
-    size_t sealing[3], opening[3], most = 0;
-    for (int i = 0; i < 3; i++) {
-        take_record(way, scheme, lengths[i], &sealing[i], &opening[i]);
+    Lengths lengths[RECORDS];
+    size_t sealing[RECORDS], opening[RECORDS], most = 0;
+    lengths_of(scheme, lengths);
+    for (int i = 0; i < RECORDS; i++) {
+        take_record(way, scheme, &lengths[i], &sealing[i], &opening[i]);
         most = greater(most, greater(sealing[i], opening[i]));
     }
-    for (int i = 1; i < 3; i++) {
+    for (int i = 1; i < RECORDS; i++) {
         if (sealing[i] != sealing[0] || opening[i] != opening[0]) {
-            printf("stack: %s and %s, scheme %u: not the same for a record of %zu bytes as for an empty one\n", way->seal_name,
-                   way->open_name, (unsigned)scheme->scheme, lengths[i]);
+            printf("stack: %s and %s, scheme %u: not the same for a body of %zu bytes as for the shortest\n", way->seal_name,
+                   way->open_name, (unsigned)scheme->scheme, lengths[i].body);
             failures++;
         }
     }
@@ -144,11 +175,11 @@ static Call rounds_call(uint32_t scheme, size_t header_len, size_t body_len)
 
 static size_t take_refused_rounds(const Scheme *scheme)
 {
-    const Call calls[3] = {rounds_call(4, 16, 16), rounds_call(scheme->scheme, scheme->most + 1, 16),
-                           rounds_call(scheme->scheme, 16, scheme->most + 1)};
-    const uint32_t answers[3] = {AURASKI_UNKNOWN, AURASKI_HEADER_TOO_LONG, AURASKI_BODY_TOO_LONG};
+    const Call calls[4] = {rounds_call(SCHEMES + 1, 16, 16), rounds_call(scheme->scheme, scheme->header + 1, 16),
+                           rounds_call(scheme->scheme, 16, scheme->body + 1), rounds_call(scheme->scheme, 0, 0)};
+    const uint32_t answers[4] = {AURASKI_UNKNOWN, AURASKI_HEADER_TOO_LONG, AURASKI_BODY_TOO_LONG, AURASKI_NOTHING};
     size_t most = 0;
-    for (int i = 0; i < 3; i++)
+    for (int i = 0; i < refusals(scheme, 4); i++)
         most = greater(most, take("auraski_rounds", &calls[i], answers[i]));
     return most;
 }
@@ -156,10 +187,11 @@ static size_t take_refused_rounds(const Scheme *scheme)
 /* Of the lengths of the records above. The call gets lengths and no record: only the bound is held. */
 static size_t take_rounds(const Scheme *scheme)
 {
-    const size_t lengths[3] = {0, 3 * scheme->block + 1, scheme->most};
-    size_t depths[3], refused = take_refused_rounds(scheme), most = refused;
-    for (int i = 0; i < 3; i++) {
-        Call call = rounds_call(scheme->scheme, lengths[i], lengths[i]);
+    Lengths lengths[RECORDS];
+    size_t depths[RECORDS], refused = take_refused_rounds(scheme), most = refused;
+    lengths_of(scheme, lengths);
+    for (int i = 0; i < RECORDS; i++) {
+        Call call = rounds_call(scheme->scheme, lengths[i].header, lengths[i].body);
         depths[i] = take("auraski_rounds", &call, AURASKI_DONE);
         most = greater(most, depths[i]);
     }
@@ -170,12 +202,12 @@ static size_t take_rounds(const Scheme *scheme)
 size_t take_records(void)
 {
     size_t most = 0;
-    puts("| entry point             | scheme | empty record |   4 blocks | longest record | refused |");
+    puts("| entry point             | scheme |     shortest |   4 blocks | longest record | refused |");
     puts("|:------------------------|-------:|-------------:|-----------:|---------------:|--------:|");
-    for (int i = 0; i < 3; i++) {
+    for (int i = 0; i < SCHEMES; i++) {
         for (int way = 0; way < 2; way++)
-            most = greater(most, take_scheme(&WAYS[way], &SCHEMES[i]));
-        most = greater(most, take_rounds(&SCHEMES[i]));
+            most = greater(most, take_scheme(&WAYS[way], &schemes[i]));
+        most = greater(most, take_rounds(&schemes[i]));
     }
     return most;
 }
