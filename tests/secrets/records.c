@@ -15,14 +15,22 @@ static prepared_keys prepared;
 
 struct scheme {
     uint32_t number, cipher;
-    size_t block, nonce, limit;
+    size_t block, nonce, header_limit, body_limit;
+    int is_eevee;      /* Umbreon or Jolteon: the tag is a run's last block, and header and body are not both empty */
     uint8_t behind[2]; /* what stands behind the nonce in the tweak of a body that is one short block */
 };
 
-static const struct scheme schemes[3] = {
-    {AURASKI_PAEF_64_192, AURASKI_64_192, AURASKI_PAEF_64_192_BLOCK, AURASKI_PAEF_64_192_NONCE, AURASKI_PAEF_64_192_LIMIT, {0xe0, 0x01}},
-    {AURASKI_PAEF_128_256, AURASKI_128_256, AURASKI_PAEF_128_256_BLOCK, AURASKI_PAEF_128_256_NONCE, AURASKI_PAEF_128_256_LIMIT, {0xe0, 0x01}},
-    {AURASKI_SAEF_128_256, AURASKI_128_256, AURASKI_SAEF_128_256_BLOCK, AURASKI_SAEF_128_256_NONCE, AURASKI_SAEF_128_256_LIMIT, {0x0d}},
+#define SIZES(MODE, CIPHER) \
+    AURASKI_##MODE##_##CIPHER, AURASKI_##CIPHER, AURASKI_##MODE##_##CIPHER##_BLOCK, AURASKI_##MODE##_##CIPHER##_NONCE
+
+static const struct scheme schemes[] = {
+    {SIZES(PAEF, 64_192), AURASKI_PAEF_64_192_LIMIT, AURASKI_PAEF_64_192_LIMIT, 0, {0xe0, 0x01}},
+    {SIZES(PAEF, 128_256), AURASKI_PAEF_128_256_LIMIT, AURASKI_PAEF_128_256_LIMIT, 0, {0xe0, 0x01}},
+    {SIZES(SAEF, 128_256), AURASKI_SAEF_128_256_LIMIT, AURASKI_SAEF_128_256_LIMIT, 0, {0x0d}},
+    {SIZES(UMBREON, 64_192), AURASKI_UMBREON_64_192_HEADER_LIMIT, AURASKI_UMBREON_64_192_BODY_LIMIT, 1, {0x00, 0x01}},
+    {SIZES(JOLTEON, 64_192), AURASKI_JOLTEON_64_192_HEADER_LIMIT, AURASKI_JOLTEON_64_192_BODY_LIMIT, 1, {0x00, 0x01}},
+    {SIZES(UMBREON, 128_256), AURASKI_UMBREON_128_256_HEADER_LIMIT, AURASKI_UMBREON_128_256_BODY_LIMIT, 1, {0x00, 0x01}},
+    {SIZES(JOLTEON, 128_256), AURASKI_JOLTEON_128_256_HEADER_LIMIT, AURASKI_JOLTEON_128_256_BODY_LIMIT, 1, {0x00, 0x01}},
 };
 
 /* By key and with a prepared key. */
@@ -94,7 +102,7 @@ static void open_forged(enum entry entry, const struct call *c)
 /* A record sealed, opened, and refused: for the first byte of its run, and for the first and the last one of its tag. */
 static void record_case(const struct way *way, const struct scheme *s, size_t header_len, size_t body_len)
 {
-    const size_t run_len = body_len + s->block, tag_len = body_len == 0 ? s->block : (body_len - 1) % s->block + 1;
+    const size_t run_len = body_len + s->block, tag_len = s->is_eevee || body_len == 0 ? s->block : (body_len - 1) % s->block + 1;
     const size_t places[] = {0, run_len - tag_len, run_len - 1};
     const struct call sealing = {s->number, s->cipher, sizeof key, s->nonce, header_len, body_len, run_len};
     const struct call opening = {s->number, s->cipher, sizeof key, s->nonce, header_len, run_len, body_len};
@@ -123,8 +131,15 @@ static void run_by_hand(const struct scheme *s, size_t body_len, size_t place, u
     block[body_len] = 0x80;
     block[place] ^= damage;
     hold(auraski_fork(s->cipher, key, tweak, block, AURASKI_BOTH, half0, half1) == AURASKI_DONE, "a fork by hand is refused");
-    memcpy(run, half0, s->block);
-    memcpy(run + s->block, half1, body_len);
+    if (s->is_eevee) {
+        for (size_t i = 0; i < body_len; i++) {
+            run[i] = half1[i] ^ block[i];
+        }
+        memcpy(run + body_len, half0, s->block);
+    } else {
+        memcpy(run, half0, s->block);
+        memcpy(run + s->block, half1, body_len);
+    }
 }
 
 /* By hand as by a seal; then refused for the first byte of the padding and for the last one. */
@@ -152,8 +167,8 @@ static void refused_cases(enum entry entry, const struct scheme *s, size_t text_
     wrong_key.key--;
     wrong_key.cipher = 0;
     long_nonce.nonce++;
-    long_header.header = s->limit + 1;
-    long_text.text += s->limit;
+    long_header.header = s->header_limit + 1;
+    long_text.text += s->body_limit;
     little_room.room--;
     make(entry, &unknown, AURASKI_UNKNOWN);
     make(entry, &wrong_key, AURASKI_WRONG_KEY_LENGTH);
@@ -161,6 +176,15 @@ static void refused_cases(enum entry entry, const struct scheme *s, size_t text_
     make(entry, &long_header, AURASKI_HEADER_TOO_LONG);
     make(entry, &long_text, AURASKI_BODY_TOO_LONG);
     make(entry, &little_room, AURASKI_ROOM);
+}
+
+/* Header and body both empty. */
+static void nothing_cases(const struct way *way, const struct scheme *s)
+{
+    const struct call sealing = {s->number, s->cipher, sizeof key, s->nonce, 0, 0, s->block};
+    const struct call opening = {s->number, s->cipher, sizeof key, s->nonce, 0, s->block, 0};
+    make(way->seal, &sealing, AURASKI_NOTHING);
+    make(way->open, &opening, AURASKI_NOTHING);
 }
 
 static void short_case(enum entry entry, const struct scheme *s)
@@ -189,7 +213,11 @@ static void scheme_cases(const struct way *way, const struct scheme *s)
     const size_t n = s->block, headers[] = {0, n - 1, n, 2 * n + 1}, bodies[] = {0, 1, n - 1, n, n + 1, 2 * n, 3 * n + 5};
     for (size_t i = 0; i < sizeof headers / sizeof headers[0]; i++) {
         for (size_t j = 0; j < sizeof bodies / sizeof bodies[0]; j++) {
-            record_case(way, s, headers[i], bodies[j]);
+            if (s->is_eevee && headers[i] + bodies[j] == 0) {
+                nothing_cases(way, s);
+            } else {
+                record_case(way, s, headers[i], bodies[j]);
+            }
         }
     }
     padding_case(way, s, 1);
