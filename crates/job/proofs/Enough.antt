@@ -9,14 +9,14 @@ use lib.Dec.{eqb}
 use lib.ListN.{length, getD, length-drop}
 use borrow.Author.Tests.{eqb-false}
 use Rattle.ciphers.proofs.Laws.{block-most}
-use Rattle.sealing.specs.declared.schemes.Scheme.{Scheme}
-use Rattle.sealing.specs.declared.schemes.Named.the-variants.{Known}
-use Rattle.sealing.specs.Schemes.{schemeOf}
+use Rattle.schemes.specs.declared.Scheme.{Scheme}
+use Rattle.schemes.specs.declared.Named.the-variants.{Known}
+use Rattle.schemes.specs.Schemes.{schemeOf}
+use Rattle.schemes.specs.Checks.{bodyIn, moreIn}
+use Rattle.schemes.proofs.Table.{each-named}
 use Rattle.sealing.specs.Calls.{Told, refused}
-use Rattle.sealing.specs.Checks.{bodyIn, moreIn}
 use Rattle.sealing.specs.Numbers.{answered}
 use Rattle.sealing.proofs.Numbers.{says-3, says-5, says-8}
-use Rattle.sealing.proofs.Table.{each-named}
 use Rattle.job.specs.Sections.{sectionOf}
 use Rattle.job.specs.Job.{isSound, jobOf, directed, fromKey, fromNonce, fromHeader, fromBody}
 use Rattle.job.proofs.Soundness.{Sound, sound, sound-front}

@@ -1,18 +1,19 @@
 -- The desk's program, in its document's words (01, The desk's program), on the definitions that the contracts of `job::run` and
 -- `job::answer` cite. Assumes nothing.
 use mathlib.Core.Path.{_≡_, refl, sym, ap, _∙_}
+use mathlib.Core.Bool.{false}
 use mathlib.Core.List.{List, [], _∷_, _++_}
 use Prim.Native.Nat.{ℕ, _+_, _≤_}
 use native.Mathlib.Omega.{arith}
 use lib.ListN.{length, drop}
 use Rattle.cells.specs.Cells.{Bytes}
 use Rattle.ciphers.specs.Ciphers.{blockOf}
+use Rattle.schemes.specs.declared.Scheme.{Scheme}
+use Rattle.schemes.specs.Schemes.{schemeOf}
+use Rattle.schemes.specs.Checks.{blank, checkOf}
+use Rattle.views.specs.View.{viewOf}
 use Rattle.sealing.specs.declared.Answer.{Answer}
-use Rattle.sealing.specs.declared.schemes.Scheme.{Scheme}
 use Rattle.sealing.specs.Demands.{Admitted, SealsTo}
-use Rattle.sealing.specs.View.{viewOf}
-use Rattle.sealing.specs.Schemes.{schemeOf}
-use Rattle.sealing.specs.Checks.{checkOf}
 use Rattle.sealing.specs.Calls.{Told, told, refused, sealed, sealRounds, openRounds, sealUnder, sealOf, openOf}
 use Rattle.ciphers.proofs.Laws.{block-most}
 use Rattle.sealing.proofs.Admitted.{seal-admitted}
@@ -51,19 +52,19 @@ never-9 job room j e =
 
 -- ---- what is printed
 
--- a seal of what is admitted: the run, whatever stood in the room
+-- a seal of what is admitted and has a run: the run, whatever stood in the room
 pub prints-sealed
     : (number : ℕ) (s : Scheme) (key nonce header body room : List ℕ) → Admitted number s key nonce header → Bytes body
-    → length (written number 0 key nonce header body) ≤ 16384 → 16384 ≤ length room
+    → blank s (length header) (length body) ≡ false → length (written number 0 key nonce header body) ≤ 16384 → 16384 ≤ length room
     → printed (written number 0 key nonce header body) room
     ≡ lineOf 0 (length body + blockOf (s .cipher)) (sealed s key nonce header body)
-prints-sealed number s key nonce header body room ok b l r =
+prints-sealed number s key nonce header body room ok b some l r =
     let w = wide number s (ok .named) in
     let m = written-length number 0 key nonce header body in
     let fits : length body ≤ s .body = omega (arith, l, m, w .body) in
     let enough : length body + blockOf (s .cipher) ≤ length room
     = omega (arith, l, m, r, w .key, ok .key-fits .long, block-most (s .cipher)) in
-    ap lineFor (job-seals number key nonce header body room l ∙ seal-admitted number s key nonce header ok body room fits enough)
+    ap lineFor (job-seals number key nonce header body room l ∙ seal-admitted number s key nonce header ok body room fits some enough)
     ∙ done-line (sealRounds s key nonce header body) (length body + blockOf (s .cipher)) (sealed s key nonce header body) room (sealed-long number s key nonce header ok body b)
 
 -- an open of a run to which a body seals: the body, whatever stood in the room

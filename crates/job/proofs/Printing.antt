@@ -8,9 +8,9 @@ use borrow.Author.Tests.{le-ltb, ne-eqb}
 use lib.Dec.{eqb, ltb}
 use lib.ListN.{length, take, drop, length-take, length-append}
 use lib.Seq.{take-at}
+use Rattle.views.specs.View.{viewOf}
 use Rattle.sealing.specs.declared.Answer.{Answer}
 use Rattle.sealing.specs.Calls.{Told, told, done}
-use Rattle.sealing.specs.View.{viewOf}
 use Rattle.cells.proofs.Choice.{either}
 use Rattle.lines.specs.Line.{lineOf}
 use Rattle.job.specs.Job.{jobOf, lineFor, printed}

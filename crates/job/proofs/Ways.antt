@@ -5,9 +5,9 @@ use mathlib.Core.List.{List}
 use Prim.Native.Nat.{ℕ, zero, suc}
 use native.Mathlib.Omega.{arith}
 use lib.ListN.{getD}
+use Rattle.schemes.proofs.Passed.{Plain}
 use Rattle.sealing.specs.Calls.{Told, refused, done, forged}
 use Rattle.cells.proofs.Choice.{either}
-use Rattle.sealing.proofs.Passed.{Plain}
 use Rattle.sealing.proofs.Ways.{seal-ways, open-ways}
 use Rattle.job.specs.Job.{isSound, jobOf, directed}
 use Rattle.job.proofs.Reading.{unsound}

@@ -5,8 +5,8 @@ use mathlib.Core.Bool.{Bool, false, cond}
 use mathlib.Core.List.{List, _∷_, _++_}
 use lib.Dec.{ltb}
 use lib.ListN.{length, drop, getD}
+use Rattle.views.specs.View.{viewOf}
 use Rattle.sealing.specs.Calls.{Told, refused, sealOf, openOf}
-use Rattle.sealing.specs.View.{viewOf}
 use Rattle.lines.specs.Line.{lineOf}
 use Rattle.job.specs.Sections.{sectionOf, behindOf, sectionsOf}
 

@@ -17,11 +17,12 @@ use Rattle.prepared.proofs.Admitted.{key-none}
 use Rattle.modes.specs.Mode.{Opened}
 use Rattle.states.specs.Modes.{roundsOf}
 use Rattle.walks.specs.Walks.{RecordSealed, RecordOpened}
-use Rattle.sealing.specs.declared.schemes.Scheme.{Scheme}
-use Rattle.sealing.specs.Schemes.{Fits}
-use Rattle.sealing.specs.Checks.{checkOf}
+use Rattle.schemes.specs.declared.Scheme.{Scheme}
+use Rattle.schemes.specs.Schemes.{Fits}
+use Rattle.schemes.specs.Checks.{checkOf}
+use Rattle.schemes.proofs.Passed.{check-long}
 use Rattle.sealing.specs.Calls.{Told, refused, done, forged, judged, passed, sealed, opened, sealRounds, openRounds, sealUnder, openUnder}
-use Rattle.sealing.proofs.Passed.{check-long, not-passed}
+use Rattle.sealing.proofs.Known.{not-passed}
 use Rattle.sealing.proofs.Sums.{seal-sum, open-sum}
 
 -- a check that answered k, and what is then told

@@ -11,17 +11,17 @@ use lib.ListN.{length}
 use borrow.Author.Tests.{eqb-false}
 use Rattle.states.specs.Modes.{roundsOf}
 use Rattle.walks.proofs.Counted.{rounds-fit}
-use Rattle.sealing.specs.declared.schemes.Scheme.{Scheme}
-use Rattle.sealing.specs.declared.schemes.Named.{Named}
-use Rattle.sealing.specs.declared.schemes.Named.the-variants.{Known, Unknown}
+use Rattle.schemes.specs.declared.Scheme.{Scheme}
+use Rattle.schemes.specs.declared.Named.{Named}
+use Rattle.schemes.specs.declared.Named.the-variants.{Known, Unknown}
+use Rattle.schemes.specs.Checks.{bodyIn, checkOf}
+use Rattle.schemes.specs.Schemes.{Under, schemeOf, Fits}
+use Rattle.schemes.proofs.Passed.{Passed, check-passed, check-pass, check-never}
+use Rattle.schemes.proofs.Table.{of-named, named-fits}
 use Rattle.sealing.specs.Budget.{costs, budgetUnder, budgetBy, budgetOf}
-use Rattle.sealing.specs.Checks.{bodyIn, checkOf}
-use Rattle.sealing.specs.Numbers.{answered, Under, Worked}
-use Rattle.sealing.specs.Schemes.{schemeOf, Fits}
+use Rattle.sealing.specs.Numbers.{answered, Worked}
 use Rattle.sealing.proofs.Counted.{worked-check, worked-rounds}
-use Rattle.sealing.proofs.Passed.{Passed, check-passed, check-pass, check-never}
 use Rattle.sealing.proofs.Said.{under-says, under-1, under-each}
-use Rattle.sealing.proofs.Table.{of-named, named-fits}
 
 -- ---- the checks' number, and the rounds
 
@@ -109,6 +109,7 @@ worked-budget opens scheme s key nonce header input room known w =
       fit = record { key-fits = refl; nonce-fits = refl; header-fits = p .fit .header-fits };
       body-fits = p .body-fits;
       room-fits = omega arith;
+      some = p .some;
     } in
     ap (λ (m : Named). budgetBy m (length header) l) known
     ∙ sym (cost-passed 0 _ _ _ (sym (check-pass s _ _ _ _ _ _ _ passed refl)) refl

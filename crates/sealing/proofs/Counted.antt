@@ -10,16 +10,17 @@ use borrow.Author.Tests.{ltb-false}
 use Rattle.cells.proofs.Choice.{either}
 use Rattle.ciphers.specs.Ciphers.{blockOf}
 use Rattle.states.specs.Modes.{roundsOf}
-use Rattle.sealing.specs.declared.schemes.Scheme.{Scheme}
-use Rattle.sealing.specs.declared.schemes.Named.the-variants.{Known}
-use Rattle.sealing.specs.Schemes.{schemeOf}
+use Rattle.schemes.specs.declared.Scheme.{Scheme}
+use Rattle.schemes.specs.declared.Named.the-variants.{Known}
+use Rattle.schemes.specs.Schemes.{schemeOf, Under}
+use Rattle.schemes.specs.Checks.{bodyIn, checked}
+use Rattle.schemes.proofs.Passed.{check-long}
+use Rattle.schemes.proofs.Table.{of-named}
 use Rattle.sealing.specs.Calls.{Told, done, forged, opened, sealRounds, openRounds, sealUnder, openUnder}
-use Rattle.sealing.specs.Checks.{bodyIn, checked}
-use Rattle.sealing.specs.Numbers.{answered, Under, Worked}
+use Rattle.sealing.specs.Numbers.{answered, Worked}
 use Rattle.sealing.proofs.Numbers.{says-0, says-6}
-use Rattle.sealing.proofs.Passed.{check-long, all-passed}
+use Rattle.sealing.proofs.Known.{all-passed, seal-known, open-known}
 use Rattle.sealing.proofs.Sums.{seal-sum, open-sum}
-use Rattle.sealing.proofs.Table.{of-named, seal-known, open-known}
 
 module _ (scheme : ℕ) (key nonce header input room : List ℕ) where
   abbrev check : (opens : Bool) → Scheme → ℕ

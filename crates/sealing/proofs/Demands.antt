@@ -1,11 +1,11 @@
--- The three demands, on the definitions that the contracts of seal, open and view cite (specs/Calls.antt, View.antt; the words
--- `Admitted` and `SealsTo` in specs/Demands.antt). These definitions are total, so every input of every length is answered; that
+-- The three demands, on the definitions that the contracts of seal, open and view cite (specs/Calls.antt, views' specs/View.antt; the
+-- words `Admitted` and `SealsTo` in specs/Demands.antt). These definitions are total, so every input of every length is answered; that
 -- the calls end and answer so is what their contracts say. Assumes nothing.
 use mathlib.Core.Path.{_≡_, refl, sym, ap, _∙_}
 use Prim.Native.Nat.{ℕ, _+_, _-_, _≤_, _<_}
 use native.Mathlib.Omega.{arith}
 use mathlib.Core.Logic.{_↔_, inr}
-use mathlib.Core.Bool.{true}
+use mathlib.Core.Bool.{true, false}
 use mathlib.Core.List.{List}
 use lib.ListN.{length, take}
 use Rattle.cells.specs.Cells.{Bytes, Block}
@@ -17,29 +17,26 @@ use Rattle.forkskinny.proofs.Conditions.{forkOne, unforkInput, unforkOther, con
 use Rattle.modes.specs.Mode.{sealRun, openRun}
 use Rattle.modes.specs.Paef.{paef}
 use Rattle.modes.specs.Saef.{saef}
-use Rattle.modes.specs.Tweaks.{paefTweaks, Distinct}
-use Rattle.modes.proofs.PaefTweaks.{paef-distinct}
 use Rattle.states.specs.Skinny.{skinny}
+use Rattle.schemes.specs.declared.Scheme.{Scheme}
+use Rattle.schemes.specs.declared.Named.the-variants.{Known}
+use Rattle.schemes.specs.Schemes.{scheme1, scheme2, scheme3, schemeOf}
+use Rattle.schemes.specs.Checks.{blank, sealCheck, openCheck}
+use Rattle.views.specs.View.{viewOf}
+use Rattle.schemes.proofs.Table.{none-named}
 use Rattle.sealing.specs.declared.Answer.{Answer}
-use Rattle.sealing.specs.declared.schemes.Scheme.{Scheme}
-use Rattle.sealing.specs.declared.schemes.Named.the-variants.{Known}
-use Rattle.sealing.specs.Schemes.{scheme1, scheme2, scheme3, schemeOf}
 use Rattle.sealing.specs.Calls.{Told, told, refused, done, forged, judged}
 use Rattle.sealing.specs.Calls.{sealed, opened, sealRounds, openRounds, sealUnder, openUnder, sealOf, openOf}
-use Rattle.sealing.specs.Checks.{checkOf, sealCheck, openCheck}
 use Rattle.sealing.specs.Demands.{Admitted, SealsTo}
-use Rattle.sealing.specs.Figures.{figures, allAnswered, allStated}
-use Rattle.sealing.specs.View.{viewOf}
-use Rattle.sealing.proofs.Admitted.{seal-admitted, open-admitted}
+use Rattle.sealing.proofs.Admitted.{seal-admitted, open-admitted, open-blank}
 use Rattle.sealing.proofs.Counted.{same-rounds}
 use Rattle.sealing.proofs.Exactly.{seal-writes, seal-wrote, long, opens-iff, one-body, body-returned, none-forged, sealed-opens}
 use Rattle.sealing.proofs.Numbers.{says-6}
-use Rattle.sealing.proofs.Passed.{all-passed, not-passed}
-use Rattle.sealing.proofs.Table.{seal-known, open-known, none-named}
+use Rattle.sealing.proofs.Known.{all-passed, not-passed, seal-known, open-known}
 use Rattle.sealing.proofs.Ways.{seal-ways, open-ways, forged-under, no-length, told-same}
 
--- ---- demand 1: refusals come in one fixed order (specs/Checks.antt), each with its number, length zero and fixed contents of the
--- room; and a contract leaves a caller one result
+-- ---- demand 1: refusals come in one fixed order (schemes' specs/Checks.antt), each with its number, length zero and fixed contents of
+-- the room; and a contract leaves a caller one result
 
 -- a refused seal has length 0 and leaves the room unchanged
 pub seal-refused : (scheme : ℕ) (key nonce header body room : List ℕ)
@@ -66,10 +63,10 @@ open-forged scheme s key nonce header run room known =
     rw (open-known scheme s known key nonce header run room) (forged-under s key nonce header run room)
 
 -- an unknown scheme is 1, before all else
-pub unknown : (scheme : ℕ) (key nonce header input room : List ℕ) → (scheme ≡ 1 → ⊥) → (scheme ≡ 2 → ⊥) → (scheme ≡ 3 → ⊥)
+pub unknown : (scheme : ℕ) (key nonce header input room : List ℕ) → (1 ≤ scheme → scheme ≤ 3 → ⊥)
     → (sealOf scheme key nonce header input room ≡ refused 1 room) × (openOf scheme key nonce header input room ≡ refused 1 room)
 unfolding sealOf openOf
-unknown scheme key nonce header input room a b c = (rw (none-named scheme a b c), rw (none-named scheme a b c))
+unknown scheme key nonce header input room h = (rw (none-named scheme h), rw (none-named scheme h))
 
 -- under a scheme, the first check that applies answers with its number, before anything else is looked at; where none does, a seal is
 -- done and an open judged
@@ -95,11 +92,6 @@ module _ (scheme : ℕ) (s : Scheme) (key nonce header input room : List ℕ) (k
       ≡ judged (openRounds s key nonce header input) (opened s key nonce header input) (length input - blockOf (s .cipher)) room
   unfolding openUnder
   open-judged e = open-known scheme s known key nonce header input room ∙ all-passed _ _ room e
-
--- the document's boundary figures: the whole table, computed
-pub figures-hold : allAnswered figures ≡ allStated figures
-unfolding schemeOf checkOf
-figures-hold = refl
 
 -- any two results that a contract allows are one
 pub same-seal : (scheme : ℕ) (key nonce header body room : List ℕ) (a b : Answer) (r q : List ℕ)
@@ -132,44 +124,39 @@ module _ (key nonce header body room : List ℕ) where
   pub seal-1 : Admitted 1 scheme1 key nonce header → length body ≤ 65528 → length body + 8 ≤ length room
       → sealOf 1 key nonce header body room
       ≡ done (sealRounds scheme1 key nonce header body) (length body + 8) (sealRun 8 (paef 8 (skinny N64T192 key) nonce) header body) room
-  seal-1 ok b r = seal-admitted 1 scheme1 key nonce header ok body room b r
+  unfolding blank
+  seal-1 ok b r = seal-admitted 1 scheme1 key nonce header ok body room b refl r
 
   pub seal-2 : Admitted 2 scheme2 key nonce header → length body ≤ 131056 → length body + 16 ≤ length room
       → sealOf 2 key nonce header body room
       ≡ done (sealRounds scheme2 key nonce header body) (length body + 16) (sealRun 16 (paef 16 (skinny N128T256 key) nonce) header body) room
-  seal-2 ok b r = seal-admitted 2 scheme2 key nonce header ok body room b r
+  unfolding blank
+  seal-2 ok b r = seal-admitted 2 scheme2 key nonce header ok body room b refl r
 
   pub seal-3 : Admitted 3 scheme3 key nonce header → length body ≤ 1048576 → length body + 16 ≤ length room
       → sealOf 3 key nonce header body room
       ≡ done (sealRounds scheme3 key nonce header body) (length body + 16) (sealRun 16 (saef 16 (skinny N128T256 key) nonce) header body) room
-  seal-3 ok b r = seal-admitted 3 scheme3 key nonce header ok body room b r
+  unfolding blank
+  seal-3 ok b r = seal-admitted 3 scheme3 key nonce header ok body room b refl r
 
 module _ (key nonce header run room : List ℕ) where
   pub open-1 : Admitted 1 scheme1 key nonce header → 8 ≤ length run → length run ≤ 65536 → length run ≤ length room + 8
       → openOf 1 key nonce header run room
       ≡ judged (openRounds scheme1 key nonce header run) (openRun 8 (paef 8 (skinny N64T192 key) nonce) header run) (length run - 8) room
-  open-1 ok l b r = open-admitted 1 scheme1 key nonce header ok run room l b r
+  unfolding blank
+  open-1 ok l b r = open-admitted 1 scheme1 key nonce header ok run room l b refl r
 
   pub open-2 : Admitted 2 scheme2 key nonce header → 16 ≤ length run → length run ≤ 131072 → length run ≤ length room + 16
       → openOf 2 key nonce header run room
       ≡ judged (openRounds scheme2 key nonce header run) (openRun 16 (paef 16 (skinny N128T256 key) nonce) header run) (length run - 16) room
-  open-2 ok l b r = open-admitted 2 scheme2 key nonce header ok run room l b r
+  unfolding blank
+  open-2 ok l b r = open-admitted 2 scheme2 key nonce header ok run room l b refl r
 
   pub open-3 : Admitted 3 scheme3 key nonce header → 16 ≤ length run → length run ≤ 1048592 → length run ≤ length room + 16
       → openOf 3 key nonce header run room
       ≡ judged (openRounds scheme3 key nonce header run) (openRun 16 (saef 16 (skinny N128T256 key) nonce) header run) (length run - 16) room
-  open-3 ok l b r = open-admitted 3 scheme3 key nonce header ok run room l b r
-
--- thirteen bits of number are enough for a PAEF scheme's own limits: no two blocks of one record, header and body together, have the same
--- tweak
-module _ (key nonce header body : List ℕ) where
-  pub tweaks-1 : length header ≤ scheme1 .header → length body ≤ scheme1 .body
-      → Distinct (paefTweaks 8 (skinny N64T192 key) nonce header body)
-  tweaks-1 = paef-distinct 8 (skinny N64T192 key) nonce (omega arith) header body
-
-  pub tweaks-2 : length header ≤ scheme2 .header → length body ≤ scheme2 .body
-      → Distinct (paefTweaks 16 (skinny N128T256 key) nonce header body)
-  tweaks-2 = paef-distinct 16 (skinny N128T256 key) nonce (omega arith) header body
+  unfolding blank
+  open-3 ok l b r = open-admitted 3 scheme3 key nonce header ok run room l b refl r
 
 -- a block can be taken back from either half h, and the other half comes out again
 module _ (c : Cipher) (key tweak m : List ℕ) (hk : Bytes key) (ht : Bytes tweak) (hm : Block 16 m) (h : ℕ) (two : h < 2) where
@@ -183,7 +170,7 @@ module _ (c : Cipher) (key tweak m : List ℕ) (hk : Bytes key) (ht : Bytes twea
 
 module _ (number : ℕ) (s : Scheme) (key nonce header : List ℕ) (ok : Admitted number s key nonce header) where
   -- open of what seal wrote gives back the body, in any room that takes it, and for as many rounds
-  pub round-trip : (body room room′ : List ℕ) → Bytes body → length body ≤ s .body
+  pub round-trip : (body room room′ : List ℕ) → Bytes body → length body ≤ s .body → blank s (length header) (length body) ≡ false
       → length body + blockOf (s .cipher) ≤ length room → length body ≤ length room′
       → let t = sealOf number key nonce header body room in
       (t .number ≡ 0) × (openOf number key nonce header (take (t .length) (t .room)) room′ ≡ done (t .rounds) (length body) body room′)
@@ -221,8 +208,14 @@ module _ (number : ℕ) (s : Scheme) (key nonce header : List ℕ) (ok : Admitte
         let e : openOf number key nonce header run room .number ≡ 0 → ⊥ = λ z. let (body, t) = opens-exactly .0 z in none body t in
         (e, no-length number key nonce header run room e)
 
-    -- with 6, if it has the length of a sealed body
+    -- with 10, if header and body are both empty and the mode has no run for them
+    pub blanks-refused : blockOf (s .cipher) ≤ length run → blank s (length header) (length run - blockOf (s .cipher)) ≡ true
+        → openOf number key nonce header run room ≡ refused 10 room
+    blanks-refused = open-blank number s key nonce header ok run room
+
+    -- and with 6, if it has the length of a sealed body
     pub others-forged : ((body : List ℕ) → SealsTo s key nonce header body run → ⊥)
         → blockOf (s .cipher) ≤ length run → length run ≤ s .body + blockOf (s .cipher)
+        → blank s (length header) (length run - blockOf (s .cipher)) ≡ false
         → openOf number key nonce header run room ≡ forged (openRounds s key nonce header run) (length run - blockOf (s .cipher)) room
     others-forged = none-forged number s key nonce header ok run room hr enough

@@ -21,12 +21,13 @@ use Rattle.states.specs.declared.Kind.the-variants.{Paef, Saef}
 use Rattle.states.specs.Modes.{Carried, modeOf, tailOf, roundsOf}
 use Rattle.states.specs.Skinny.{skinny}
 use Rattle.states.proofs.Laws.{skinny-laws}
-use Rattle.sealing.specs.declared.schemes.Scheme.{Scheme}
+use Rattle.schemes.specs.declared.Scheme.{Scheme}
+use Rattle.schemes.specs.Checks.{blank}
+use Rattle.schemes.proofs.Table.{named-fits}
 use Rattle.sealing.specs.Calls.{Told, done, forged, judged, sealed, opened, sealRounds, openRounds, sealOf, openOf}
 use Rattle.sealing.specs.Demands.{Admitted, SealsTo}
 use Rattle.sealing.proofs.Admitted.{seal-admitted, open-admitted, sealed-fits, opened-fits}
 use Rattle.sealing.proofs.Sums.{seal-sum, open-sum}
-use Rattle.sealing.proofs.Table.{named-fits}
 
 -- ---- the modes obey the laws
 
@@ -71,21 +72,22 @@ module _ (number : ℕ) (s : Scheme) (key nonce header : List ℕ) (ok : Admitte
     pub seal-writes : (room : List ℕ) → SealsTo s key nonce header body run → length body + n ≤ length room
         → sealOf number key nonce header body room ≡ done (sealRounds s key nonce header body) (length run) run room
     seal-writes room t r =
-        seal-admitted number s key nonce header ok body room (t .body-fits) r ∙ (λ i. done (sealRounds s key nonce header body) (sym (long t) i) (t .published i) room)
+        seal-admitted number s key nonce header ok body room (t .body-fits) (t .some) r ∙ (λ i. done (sealRounds s key nonce header body) (sym (long t) i) (t .published i) room)
 
     -- and to no other: 0 tells that body and room were within the limits, the length is the run's, and the front of the room is the run
     pub seal-wrote : (room : List ℕ) → Bytes body
         → sealOf number key nonce header body room ≡ done (sealRounds s key nonce header body) (length run) run room
         → SealsTo s key nonce header body run
     seal-wrote room b e =
-        let (h, r) = sealed-fits number s key nonce header ok body room (ap (λ (u : Told). u .number) e) in
+        let (h, m, r) = sealed-fits number s key nonce header ok body room (ap (λ (u : Told). u .number) e) in
         let y : List ℕ = sealed s key nonce header body in
         let k : ℕ = sealRounds s key nonce header body in
-        let d : done k (length body + n) y room ≡ done k (length run) run room = sym (seal-admitted number s key nonce header ok body room h r) ∙ e in
+        let d : done k (length body + n) y room ≡ done k (length run) run room = sym (seal-admitted number s key nonce header ok body room h m r) ∙ e in
         let l : length y ≡ length run = sealed-long body b ∙ ap (λ (u : Told). u .length) d in
         record {
           body-bytes = b;
           body-fits = h;
+          some = m;
           published =
               sym (take-at y (drop (length body + n) room) (length run) l)
               ∙ ap (λ (u : Told). take (length run) (u .room)) d
@@ -102,14 +104,21 @@ module _ (number : ℕ) (s : Scheme) (key nonce header : List ℕ) (ok : Admitte
         let m : length run - n ≡ length body = omega arith in
         let o : opened s key nonce header run ≡ record { authentic = true; body = body }
         = exact n M Ok lawful header (ok .header-bytes) run body hr (omega arith) .1 (t .body-bytes, t .published) in
-        open-admitted number s key nonce header ok run room (omega arith) (omega (arith, t .body-fits)) enough
+        open-admitted number s key nonce header ok run room (omega arith) (omega (arith, t .body-fits)) (ap (blank s (length header)) m ∙ t .some) enough
         ∙ (λ i. judged (openRounds s key nonce header run) (o i) (m i) room)
 
     pub opens-iff : (openOf number key nonce header run room .number ≡ 0) ↔ ((body : List ℕ) × SealsTo s key nonce header body run)
     opens-iff = (
-      λ e. let (l, most, a) = opened-fits number s key nonce header ok run room e in
-          let q = seal-open n M Ok lawful header (ok .header-bytes) run hr l a in
-          (opened s key nonce header run .body, record { body-bytes = q .0 .bytes; body-fits = omega (arith, q .0 .long); published = q .1 }),
+      λ e. let (l, most, m, a) = opened-fits number s key nonce header ok run room e in
+          let q = seal-open n M Ok lawful header (ok .header-bytes) run hr l a in (
+            opened s key nonce header run .body,
+            record {
+              body-bytes = q .0 .bytes;
+              body-fits = omega (arith, q .0 .long);
+              some = ap (blank s (length header)) (q .0 .long) ∙ m;
+              published = q .1;
+            },
+          ),
       λ t. ap (λ (u : Told). u .number) (body-returned (t .0) (t .1)),
     )
 
@@ -118,23 +127,27 @@ module _ (number : ℕ) (s : Scheme) (key nonce header : List ℕ) (ok : Admitte
         unique n M Ok lawful header (ok .header-bytes) a b (t .body-bytes) (u .body-bytes) (t .published ∙ sym (u .published))
 
     pub none-forged : ((body : List ℕ) → SealsTo s key nonce header body run → ⊥) → n ≤ length run → length run ≤ s .body + n
+        → blank s (length header) (length run - n) ≡ false
         → openOf number key nonce header run room ≡ forged (openRounds s key nonce header run) (length run - n) room
-    none-forged none l h =
+    none-forged none l h m =
         let a : opened s key nonce header run .authentic ≡ false
         = refused-iff n M Ok lawful header (ok .header-bytes) run hr l .1
-        (λ b hb e. none b (record { body-bytes = hb; body-fits = omega (arith, sealed-long b hb, ap length e); published = e })) in
+        (λ b hb e.
+        let k : length b ≡ length run - n = omega (arith, sealed-long b hb, ap length e) in
+        none b (record { body-bytes = hb; body-fits = omega arith; some = ap (blank s (length header)) k ∙ m; published = e })) in
         let k : ℕ = openRounds s key nonce header run in
-        open-admitted number s key nonce header ok run room l h enough
+        open-admitted number s key nonce header ok run room l h m enough
         ∙ ap (λ (b : Bool). cond b (done k (length run - n) (opened s key nonce header run .body) room) (forged k (length run - n) room)) a
 
   -- what seal wrote, opened
-  pub sealed-opens : (body room room′ : List ℕ) → Bytes body → length body ≤ s .body → length body + n ≤ length room → length body ≤ length room′
+  pub sealed-opens : (body room room′ : List ℕ) → Bytes body → length body ≤ s .body → blank s (length header) (length body) ≡ false
+      → length body + n ≤ length room → length body ≤ length room′
       → let t = sealOf number key nonce header body room in
       (t .number ≡ 0) × (openOf number key nonce header (take (t .length) (t .room)) room′ ≡ done (t .rounds) (length body) body room′)
-  sealed-opens body room room′ b h r r′ =
+  sealed-opens body room room′ b h some r r′ =
       let run : List ℕ = sealed s key nonce header body in
       let l : length run ≡ length body + n = sealed-long body b in
-      let e = seal-admitted number s key nonce header ok body room h r in
+      let e = seal-admitted number s key nonce header ok body room h some r in
       let m : length run - n ≡ length body = omega arith in
       let same-rounds : openRounds s key nonce header run ≡ sealRounds s key nonce header body
       = open-sum s key nonce header run (omega arith)
@@ -145,6 +158,6 @@ module _ (number : ℕ) (s : Scheme) (key nonce header : List ℕ) (ok : Admitte
         ap (λ (u : Told). openOf number key nonce header (take (u .length) (u .room)) room′) e
             ∙ ap (λ (c : List ℕ). openOf number key nonce header c room′) front
             ∙ body-returned run room′ (sealed-block body b .bytes) (omega arith) body
-            (record { body-bytes = b; body-fits = h; published = refl })
+            (record { body-bytes = b; body-fits = h; some = some; published = refl })
             ∙ ap (λ (k : ℕ). done k (length body) body room′) (same-rounds ∙ ap (λ (u : Told). u .rounds) (sym e)),
       )

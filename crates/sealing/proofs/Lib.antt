@@ -4,12 +4,10 @@ mod Budgets
 mod Counted
 pub mod Demands
 pub mod Exactly
-mod First
+mod Known
 pub mod Numbers
-pub mod Passed
 pub mod Prepared
 pub mod Rounds
 mod Said
 mod Sums
-pub mod Table
 pub mod Ways

@@ -1,21 +1,24 @@
 -- C-11, which length was wrong: what each number says, exactly, of a seal and of an open (`opens`; the words are those of
--- specs/Numbers.antt). So a maker can go by the number: 2 is the key's length and nothing else, 7 the nonce's, 3 the header's, 8 the
--- body's, and all that is looked at before was right. What a call gives with 0 is in Demands.antt. Assumes nothing.
+-- specs/Numbers.antt and of the schemes). So a maker can go by the number: 2 is the key's length and nothing else, 7 the nonce's, 3 the
+-- header's, 8 the body's, and all that is looked at before was right. What a call gives with 0 is in Demands.antt. Assumes nothing.
 use mathlib.Core.Path.{_≡_, refl}
 use Prim.Native.Nat.{ℕ, _+_, _≤_, _<_}
+use native.Mathlib.Omega.{arith}
 use mathlib.Core.Logic.{_↔_, Iff·rfl, Iff·trans, Iff·and}
 use mathlib.Core.Bool.{Bool, true, false}
 use mathlib.Core.List.{List}
 use lib.Dec.{eqb}
 use lib.ListN.{length}
 use Rattle.ciphers.specs.Ciphers.{blockOf}
-use Rattle.sealing.specs.declared.schemes.Scheme.{Scheme}
+use Rattle.states.specs.Modes.{takesBlank}
+use Rattle.schemes.specs.declared.Scheme.{Scheme}
+use Rattle.schemes.specs.Checks.{bodyIn, moreIn, checked, Fitting}
+use Rattle.schemes.specs.Schemes.{Under}
+use Rattle.schemes.proofs.Passed.{blank-is, check-2, check-7, check-3, check-8, check-4, check-5, check-10, check-plain}
+use Rattle.schemes.proofs.Table.{unnamed}
 use Rattle.sealing.specs.Calls.{opened}
-use Rattle.sealing.specs.Checks.{bodyIn, moreIn, checked}
-use Rattle.sealing.specs.Numbers.{answered, Under, Fitting}
-use Rattle.sealing.proofs.Passed.{check-2, check-7, check-3, check-8, check-4, check-5, check-plain}
-use Rattle.sealing.proofs.Said.{after-check, after-0, after-6, short-is, short-fits, not-short, forged-is, not-forged, said, said-1}
-use Rattle.sealing.proofs.Table.{unnamed}
+use Rattle.sealing.specs.Numbers.{answered}
+use Rattle.sealing.proofs.Said.{after-check, after-0, after-6, short-is, long-is, short-fits, not-short, forged-is, not-forged, said, said-1}
 
 module _ (opens : Bool) (scheme : ℕ) (key nonce header input room : List ℕ) where
   abbrev number : ℕ
@@ -39,7 +42,7 @@ module _ (opens : Bool) (scheme : ℕ) (key nonce header input room : List ℕ) 
       said key nonce header input room opens scheme k not-1 Q λ s. Iff·trans (after-check _ _ k not-0 not-6) (f s)
 
   -- 1: no scheme has this number
-  pub says-1 : (number ≡ 1) ↔ ((scheme ≡ 1 → ⊥) × (scheme ≡ 2 → ⊥) × (scheme ≡ 3 → ⊥))
+  pub says-1 : (number ≡ 1) ↔ (1 ≤ scheme → scheme ≤ 3 → ⊥)
   says-1 = Iff·trans (said-1 key nonce header input room opens scheme) (unnamed scheme)
 
   -- 2: a known scheme, and a key of another length
@@ -76,6 +79,24 @@ module _ (opens : Bool) (scheme : ℕ) (key nonce header input room : List ℕ) 
       let (to, from) = check-5 s _ _ _ _ _ _ _ in (
         λ e. let (f, (b, (_, r))) = to e in (f, b, r),
         λ t. from (t .0, (t .1, (not-short s (length input) opens (length room) (t .2), t .2))),
+      )
+
+  -- 10: a known scheme, a key, a nonce and a header that fit, a run of a block at least, a room that holds the output, a mode that has no run
+  -- for an empty header and an empty body, and both of them empty
+  pub says-10 : (number ≡ 10) ↔ Under scheme (λ s.
+      Fit s
+      × (opens ≡ true → blockOf (s .cipher) ≤ length input)
+      × (bodyIn opens s (length input) + moreIn opens s ≤ length room)
+      × (takesBlank (s .kind) ≡ false)
+      × (length header ≡ 0)
+      × (bodyIn opens s (length input) ≡ 0))
+  says-10 =
+      by-check 10 refl refl refl _ λ s.
+      let (to, from) = check-10 s _ _ _ _ _ _ _ in
+      let long = long-is s (length input) opens in
+      let none = blank-is s (length header) (bodyIn opens s (length input)) in (
+        λ e. let (f, (_, (l, (r, b)))) = to e in let (k, h, i) = none .0 b in (f, long .0 l, r, k, h, i),
+        λ t. from (t .0, (omega (arith, t .5), (long .1 (t .1), (t .2, none .1 (t .3, t .4, t .5))))),
       )
 
   -- 6: a known scheme, no check applies, and an open of a run that is not authentic

@@ -19,13 +19,13 @@ use Rattle.prepared.proofs.Admitted.{all-admitted, key-of}
 use Rattle.forkskinny.specs.declared.Forked.{Forked}
 use Rattle.forkskinny.specs.declared.Unforked.{Unforked}
 use Rattle.forkskinny.specs.Calls.{forkBy, unforkBy, forkRefusedWith, unforkRefusedWith, forkOf, unforkOf, forkWith, unforkWith}
-use Rattle.sealing.specs.declared.schemes.Scheme.{Scheme}
-use Rattle.sealing.specs.declared.schemes.Named.{Named}
-use Rattle.sealing.specs.declared.schemes.Named.the-variants.{Known}
-use Rattle.sealing.specs.Schemes.{schemeOf}
+use Rattle.schemes.specs.declared.Scheme.{Scheme}
+use Rattle.schemes.specs.declared.Named.{Named}
+use Rattle.schemes.specs.declared.Named.the-variants.{Known}
+use Rattle.schemes.specs.Schemes.{schemeOf}
+use Rattle.schemes.proofs.Table.{named-fits}
 use Rattle.sealing.specs.Calls.{Told, refused, under, sealUnder, openUnder, sealOf, openOf, sealWith, openWith}
 use Rattle.sealing.proofs.Answers.{seal-no-key, open-no-key, no-record}
-use Rattle.sealing.proofs.Table.{named-fits}
 
 -- ---- seal and open: number, length, room and rounds are those of the key
 

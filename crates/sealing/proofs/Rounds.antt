@@ -13,21 +13,21 @@ use Rattle.forkskinny.specs.Calls.{wants, forkRounds, forkOf, unforkRounds, unf
 use Rattle.modes.specs.Blocks.{beforeLast}
 use Rattle.modes.specs.Rounds.{sealCalls, openCalls, total, blocks, headBlocks, roundsBy}
 use Rattle.modes.proofs.Rounds.{rounds-flat}
-use Rattle.states.specs.Modes.{modeOf, roundsOf}
+use Rattle.states.specs.Modes.{modeOf, takesBlank, roundsOf}
 use Rattle.states.specs.Skinny.{costOf}
+use Rattle.schemes.specs.declared.Scheme.{Scheme}
+use Rattle.schemes.specs.declared.Named.the-variants.{Known}
+use Rattle.schemes.specs.Checks.{bodyIn, blank, checkOf}
+use Rattle.schemes.specs.Schemes.{Under, scheme1, scheme2, scheme3, schemeOf}
+use Rattle.schemes.proofs.Passed.{blank-is, check-3, check-8, check-10, check-passed, check-pass}
+use Rattle.schemes.proofs.Table.{named-1, named-2, named-3, unnamed, of-named}
 use Rattle.sealing.specs.declared.Budget.{Budget}
-use Rattle.sealing.specs.declared.schemes.Scheme.{Scheme}
-use Rattle.sealing.specs.declared.schemes.Named.the-variants.{Known}
 use Rattle.sealing.specs.Budget.{budgetUnder, budgetOf}
 use Rattle.sealing.specs.Calls.{Told, sealOf, openOf}
-use Rattle.sealing.specs.Checks.{bodyIn, checkOf}
-use Rattle.sealing.specs.Numbers.{answered, Under, Worked}
+use Rattle.sealing.specs.Numbers.{answered, Worked}
 use Rattle.sealing.specs.RoundFigures.{blockFigures, blocksTold, blocksStated, recordFigures, recordsTold, recordsStated}
-use Rattle.sealing.specs.Schemes.{scheme1, scheme2, scheme3, schemeOf}
 use Rattle.sealing.proofs.Budgets.{budget-says, budget-unknown, budget-none, budget-fits, worked-budget}
 use Rattle.sealing.proofs.Counted.{worked-check, worked-rounds, seal-told, open-told, same-rounds}
-use Rattle.sealing.proofs.Passed.{check-3, check-8, check-passed, check-pass}
-use Rattle.sealing.proofs.Table.{named-1, named-2, named-3, unnamed, of-named}
 use Rattle.sealing.proofs.Ways.{seal-ways, open-ways}
 
 -- ---- a block call: the rounds before the fork plus each branch reached; the figures of document 02, for every key, tweak and block
@@ -142,9 +142,9 @@ module _ (scheme : ℕ) (key nonce header : List ℕ) where
       ≡ record { number = 0; rounds = openOf scheme key nonce header run room .rounds }
   budget-open s run room known w = worked-budget true scheme s key nonce header run room known w
 
--- it refuses as the checks do: 1 for an unknown scheme, 3 for the header, 8 for the body
+-- it refuses as the checks do: 1 for an unknown scheme, 3 for the header, 8 for the body, 10 for both empty under a mode that has no run for them
 module _ (scheme header body : ℕ) where
-  pub budget-1 : (budgetOf scheme header body .number ≡ 1) ↔ ((scheme ≡ 1 → ⊥) × (scheme ≡ 2 → ⊥) × (scheme ≡ 3 → ⊥))
+  pub budget-1 : (budgetOf scheme header body .number ≡ 1) ↔ (1 ≤ scheme → scheme ≤ 3 → ⊥)
   budget-1 = Iff·trans (budget-unknown scheme header body) (unnamed scheme)
 
   pub budget-3 : (budgetOf scheme header body .number ≡ 3) ↔ Under scheme (λ s. s .header < header)
@@ -159,14 +159,29 @@ module _ (scheme header body : ℕ) where
       let (to, from) = check-8 s (s .key) (s .nonce) header body false 0 body in
       (λ e. (to e .0 .header-fits, to e .1), λ h. from (record { key-fits = refl; nonce-fits = refl; header-fits = h .0 }, h .1))
 
-  pub budget-0 : (budgetOf scheme header body .number ≡ 0) ↔ Under scheme (λ s. (header ≤ s .header) × (body ≤ s .body))
+  pub budget-10 : (budgetOf scheme header body .number ≡ 10)
+      ↔ Under scheme (λ s. (takesBlank (s .kind) ≡ false) × (header ≡ 0) × (body ≡ 0))
+  budget-10 =
+      budget-says scheme header body 10 refl _ λ s.
+      let (to, from) = check-10 s (s .key) (s .nonce) header body false 0 body in
+      let none = blank-is s header body in (
+        λ e. let (_, (_, (_, (_, b)))) = to e in none .0 b,
+        λ h. from (
+          record { key-fits = refl; nonce-fits = refl; header-fits = omega (arith, h .1) },
+          (omega (arith, h .2), (refl, (omega arith, none .1 h))),
+        ),
+      )
+
+  pub budget-0 : (budgetOf scheme header body .number ≡ 0)
+      ↔ Under scheme (λ s. (header ≤ s .header) × (body ≤ s .body) × (blank s header body ≡ false))
   budget-0 =
       budget-says scheme header body 0 refl _ λ s. (
-        λ e. let p = check-passed s _ _ _ _ _ _ _ e in (p .fit .header-fits, p .body-fits),
+        λ e. let p = check-passed s _ _ _ _ _ _ _ e in (p .fit .header-fits, p .body-fits, p .some),
         λ h. check-pass s _ _ _ _ _ _ _ (record {
           fit = record { key-fits = refl; nonce-fits = refl; header-fits = h .0 };
           body-fits = h .1;
           room-fits = omega arith;
+          some = h .2;
         }) refl,
       )
 
@@ -184,5 +199,5 @@ module _ (scheme header body : ℕ) where
 
 -- some records, from the empty one to the longest, and the refusals beside them: the whole table, computed
 pub record-figures : recordsTold recordFigures ≡ recordsStated recordFigures
-unfolding budgetOf budgetUnder schemeOf checkOf roundsOf roundsBy headBlocks blocks beforeLast forkRounds wants
+unfolding budgetOf budgetUnder schemeOf checkOf blank roundsOf roundsBy headBlocks blocks beforeLast forkRounds wants
 record-figures = refl

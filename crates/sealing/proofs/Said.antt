@@ -12,17 +12,17 @@ use mathlib.Core.Bool.{Bool, true, false, not, cond, true≢false, false≢true}
 use mathlib.Core.List.{List}
 use lib.Dec.{eqb}
 use lib.ListN.{length}
-use borrow.Author.Tests.{eqb-false, ltb-true, lt-ltb, le-ltb, not-true, not-false}
+use borrow.Author.Tests.{eqb-false, ltb-true, ltb-false, lt-ltb, le-ltb, not-true, not-false}
 use Rattle.ciphers.specs.Ciphers.{blockOf}
 use Rattle.cells.proofs.Choice.{either}
-use Rattle.sealing.specs.declared.schemes.Scheme.{Scheme}
-use Rattle.sealing.specs.declared.schemes.Named.{Named}
-use Rattle.sealing.specs.declared.schemes.Named.the-variants.{Known, Unknown}
-use Rattle.sealing.specs.Schemes.{schemeOf}
+use Rattle.schemes.specs.declared.Scheme.{Scheme}
+use Rattle.schemes.specs.declared.Named.{Named}
+use Rattle.schemes.specs.declared.Named.the-variants.{Known, Unknown}
+use Rattle.schemes.specs.Schemes.{schemeOf, Under}
+use Rattle.schemes.specs.Checks.{bodyIn, shortIn, moreIn, checked}
+use Rattle.schemes.proofs.Passed.{check-never}
 use Rattle.sealing.specs.Calls.{Told, done, forged, passed, under, opened, openRounds, sealUnder, openUnder, sealOf, openOf}
-use Rattle.sealing.specs.Checks.{bodyIn, shortIn, moreIn, checked}
-use Rattle.sealing.specs.Numbers.{answered, Under}
-use Rattle.sealing.proofs.Passed.{check-never}
+use Rattle.sealing.specs.Numbers.{answered}
 
 -- ---- under a scheme: c is what the checks answer, f whether it is a forged run
 
@@ -82,6 +82,10 @@ module _ (s : Scheme) (input : ℕ) where
   pub short-is : (opens : Bool) → (shortIn opens s input ≡ true) ↔ ((opens ≡ true) × (input < blockOf (s .cipher)))
   short-is false = (λ e. absurd (false≢true e), λ t. t .0)
   short-is true = (λ e. (refl, ltb-true _ _ e), λ t. lt-ltb _ _ (t .1))
+
+  pub long-is : (opens : Bool) → (shortIn opens s input ≡ false) ↔ (opens ≡ true → blockOf (s .cipher) ≤ input)
+  long-is false = (λ _ o. absurd (false≢true o), λ _. refl)
+  long-is true = (λ e _. ltb-false _ _ e, λ h. le-ltb _ _ (h refl))
 
   -- a short run has no body, so that none is too long and no room too short for it
   pub short-fits : (opens : Bool) → shortIn opens s input ≡ true → bodyIn opens s input ≤ s .body

@@ -14,7 +14,7 @@ use Rattle.states.specs.declared.Kind.{Kind}
 use Rattle.states.specs.declared.Kind.the-variants.{Paef, Saef}
 use Rattle.states.specs.Modes.{modeOf, pricesOf, roundsOf}
 use Rattle.states.specs.Skinny.{skinny, costOf}
-use Rattle.sealing.specs.declared.schemes.Scheme.{Scheme}
+use Rattle.schemes.specs.declared.Scheme.{Scheme}
 use Rattle.sealing.specs.Calls.{sealRounds, openRounds}
 
 back-as-forth : (c : Cipher) → costOf c bothBack ≡ costOf c bothHalves

@@ -7,15 +7,15 @@ use mathlib.Core.List.{List}
 use lib.Dec.{ltb}
 use lib.ListN.{length}
 use Rattle.ciphers.specs.Ciphers.{blockOf}
+use Rattle.schemes.specs.declared.Scheme.{Scheme}
+use Rattle.schemes.specs.declared.Named.{Named}
+use Rattle.schemes.specs.declared.Named.the-variants.{Known, Unknown}
+use Rattle.schemes.specs.Schemes.{schemeOf}
+use Rattle.schemes.proofs.Passed.{Plain, plain-1, check-plain}
 use Rattle.sealing.specs.declared.Answer.{Answer}
-use Rattle.sealing.specs.declared.schemes.Scheme.{Scheme}
-use Rattle.sealing.specs.declared.schemes.Named.{Named}
-use Rattle.sealing.specs.declared.schemes.Named.the-variants.{Known, Unknown}
-use Rattle.sealing.specs.Schemes.{schemeOf}
 use Rattle.sealing.specs.Calls.{Told, told, refused, done, forged, passed, under}
 use Rattle.sealing.specs.Calls.{sealed, opened, sealRounds, openRounds, sealUnder, openUnder, sealOf, openOf}
 use Rattle.cells.proofs.Choice.{either}
-use Rattle.sealing.proofs.Passed.{Plain, plain-1, check-plain}
 
 -- ---- for any property of what is told
 

@@ -11,12 +11,12 @@ use Rattle.modes.specs.Mode.{Opened, sealRun, openRun}
 use Rattle.modes.specs.Rounds.{sealCalls, openCalls, total}
 use Rattle.states.specs.Modes.{modeOf}
 use Rattle.states.specs.Skinny.{costOf}
+use Rattle.schemes.specs.declared.Scheme.{Scheme}
+use Rattle.schemes.specs.declared.Named.{Named}
+use Rattle.schemes.specs.declared.Named.the-variants.{Known, Unknown}
+use Rattle.schemes.specs.Schemes.{schemeOf}
+use Rattle.schemes.specs.Checks.{sealCheck, openCheck}
 use Rattle.sealing.specs.declared.Answer.{Answer}
-use Rattle.sealing.specs.declared.schemes.Scheme.{Scheme}
-use Rattle.sealing.specs.declared.schemes.Named.{Named}
-use Rattle.sealing.specs.declared.schemes.Named.the-variants.{Known, Unknown}
-use Rattle.sealing.specs.Schemes.{schemeOf}
-use Rattle.sealing.specs.Checks.{sealCheck, openCheck}
 
 -- number, length, room and rounds
 pub record Told : Type 0 where
@@ -28,7 +28,7 @@ pub record Told : Type 0 where
 abbrev pub told : Answer → List ℕ → Told
 told a room = record { number = a .number; length = a .length; room = room; rounds = a .rounds }
 
--- 1 to 5, 7 and 8: the room unchanged, and no rounds
+-- 1 to 5, 7, 8 and 10: the room unchanged, and no rounds
 abbrev pub refused : ℕ → List ℕ → Told
 refused number room = record { number = number; length = 0; room = room; rounds = 0 }
 

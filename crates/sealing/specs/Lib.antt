@@ -1,9 +1,5 @@
 pub mod Budget
 pub mod Calls
-pub mod Checks
 pub mod Demands
-pub mod Figures
 pub mod Numbers
 pub mod RoundFigures
-pub mod Schemes
-pub mod View

@@ -1,25 +1,22 @@
 // Seal, open and view, and the rounds of a record by its lengths.
-pub mod checks;
-pub mod schemes;
-
 use blocks::clear;
 use blocks::front;
-use checks::check;
 use prepared::Prepared;
 use prepared::judge;
 use prepared::share_of;
 use schemes::Named;
 use schemes::Scheme;
+use schemes::checks::check;
 use schemes::scheme_of;
+pub use views::view;
 use walks::counting;
 use walks::records;
 ghost use mathlib.Core.Path.{_≡_};
 ghost use Prim.Native.Nat.{_-_};
 ghost use Rattle.prepared.specs.Prepared.{keyIn, keyOf, recordOf, Made};
-ghost use Rattle.sealing.specs.Schemes.{Fits};
+ghost use Rattle.schemes.specs.Schemes.{Fits};
 ghost use Rattle.sealing.specs.Budget.{budgetUnder, budgetOf};
 ghost use Rattle.sealing.specs.Calls.{told, sealUnder, openUnder, sealOf, openOf, sealWith, openWith};
-ghost use Rattle.sealing.specs.View.{viewOf};
 
 // What a caller is told: the number, the length of what stands at the front of the room, and the rounds that were run.
 pub struct Answer {
@@ -117,8 +114,8 @@ fn seal_with(
 }
 
 // Seals a body with a prepared key, whose share is lent: the sealed run, a block longer, at the front of the room. Refused, in this order, with
-// 1 (scheme), 2 (no key of the scheme's cipher gives this record), 7 (nonce length), 3 (header too long), 8 (body too long) or 5 (room too
-// short), the room unchanged.
+// 1 (scheme), 2 (no key of the scheme's cipher gives this record), 7 (nonce length), 3 (header too long), 8 (body too long), 5 (room too
+// short) or 10 (header and body both empty, under a mode that has no run for them), the room unchanged.
 pub fn seal_lent(
     scheme: u32,
     own: u32,
@@ -287,7 +284,7 @@ fn open_with(
 }
 
 // Opens a sealed run with a prepared key, whose share is lent: its body, a block shorter, at the front of the room. Refused, in this order, with
-// 1, 2, 7, 3, 8, 4 (run shorter than a block) or 5, the room unchanged, or with 6 (not authentic), zeros where the body would have been.
+// 1, 2, 7, 3, 8, 4 (run shorter than a block), 5 or 10, the room unchanged, or with 6 (not authentic), zeros where the body would have been.
 pub fn open_lent(
     scheme: u32,
     own: u32,
@@ -381,7 +378,7 @@ fn budget_under(s: Scheme, header: usize, body: usize) -> Budget
 }
 
 // The rounds of a seal of a body of this length, and of an open of its run, which is a block longer. Refused, in this order, with 1
-// (scheme), 3 (header too long) or 8 (body too long), and no rounds.
+// (scheme), 3 (header too long), 8 (body too long) or 10 (both empty, under a mode that has no run for them), and no rounds.
 pub fn rounds_of(scheme: u32, header: usize, body: usize) -> Budget
     ensures { λ r. ⌜ r ≡ budgetOf scheme header body ⌝ }
 {
@@ -393,18 +390,4 @@ pub fn rounds_of(scheme: u32, header: usize, body: usize) -> Budget
             rounds: 0,
         },
     }
-}
-
-// The part of the room that an answer speaks of; after a refusal, or with a length above the room's, the empty part. The room is lent
-// to be read, so that no byte of it can change.
-pub fn view(number: u32, length: usize, room: &[u8]) -> &[u8]
-    ensures { λ r. ⌜ now r ≡ viewOf number length (now (room .entry)) ⌝ }
-{
-    if number != 0 {
-        return &room[..0];
-    }
-    if room.len() < length {
-        return &room[..0];
-    }
-    &room[..length]
 }

@@ -1,8 +1,8 @@
 -- `sealing::budget_under` meets its contract: refused by a check, or counted. Assumes nothing.
 use mathlib.Core.Path.{sym, _∙_}
 use native.Mathlib.Omega.{arith}
+use Rattle.schemes.proofs.Passed.{check-passed}
 use Rattle.sealing.specs.Budget.{budgetUnder}
-use Rattle.sealing.proofs.Passed.{check-passed}
 use Rattle.sealing.proofs.Budgets.{cost-refused, cost-passed}
 use borrow.Author.Needs.{needs}
 use Rattle.sealing.proofs.budget_under.Statement.{statement}

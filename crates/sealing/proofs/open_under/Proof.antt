@@ -5,7 +5,7 @@ use lib.ListN.{length}
 use borrow.Author.Tests.{ltb-false}
 use Rattle.ciphers.proofs.Laws.{block-most}
 use Rattle.prepared.specs.Prepared.{keyIn}
-use Rattle.sealing.proofs.Passed.{check-passed, check-long}
+use Rattle.schemes.proofs.Passed.{check-passed, check-long}
 use Rattle.sealing.proofs.Answers.{key-length, open-refuses, open-does, open-forges}
 use borrow.Author.Needs.{needs}
 use Rattle.sealing.proofs.open_under.Statement.{statement}

@@ -1,8 +1,8 @@
 -- `sealing::rounds_of` meets its contract: under the scheme that the number names. Assumes nothing.
 use mathlib.Core.Path.{sym, ap, _∙_}
-use Rattle.sealing.specs.declared.schemes.Named.{Named}
+use Rattle.schemes.specs.declared.Named.{Named}
+use Rattle.schemes.proofs.Table.{named-fits}
 use Rattle.sealing.specs.Budget.{budgetBy, budgetOf}
-use Rattle.sealing.proofs.Table.{named-fits}
 use borrow.Author.Needs.{needs}
 use Rattle.sealing.proofs.rounds_of.Statement.{statement}
 use Rattle.sealing.proofs.rounds_of.Tie as tie

@@ -3,7 +3,7 @@ use mathlib.Core.Path.{refl, sym, _∙_}
 use native.Mathlib.Omega.{arith}
 use Rattle.ciphers.proofs.Laws.{block-most}
 use Rattle.prepared.specs.Prepared.{keyIn}
-use Rattle.sealing.proofs.Passed.{check-passed}
+use Rattle.schemes.proofs.Passed.{check-passed}
 use Rattle.sealing.proofs.Answers.{key-length, seal-refuses, seal-does}
 use borrow.Author.Needs.{needs}
 use Rattle.sealing.proofs.seal_under.Statement.{statement}

@@ -1,11 +1,11 @@
--- `sealing::view` meets its contract: by the tests. Assumes nothing.
+-- `views::view` meets its contract: by the tests. Assumes nothing.
 use native.Mathlib.Omega.{arith}
 use borrow.Author.Tests.{eq-eqb, ne-eqb, lt-ltb, le-ltb}
 use lib.ListN.{length-take}
-use Rattle.sealing.specs.View.{viewOf}
+use Rattle.views.specs.View.{viewOf}
 use borrow.Author.Needs.{needs}
-use Rattle.sealing.proofs.view.Statement.{statement}
-use Rattle.sealing.proofs.view.Tie as tie
+use Rattle.views.proofs.view.Statement.{statement}
+use Rattle.views.proofs.view.Tie as tie
 
 slice-aggregate-result : tie.Need-slice-aggregate-result
 slice-aggregate-result c = search needs

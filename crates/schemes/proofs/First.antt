@@ -10,7 +10,7 @@ use Prim.Native.Nat.{ℕ}
 use lib.Dec.{eqb}
 use borrow.Author.Tests.{eqb-true, eqb-false, not-true}
 use Rattle.cells.proofs.Choice.{either}
-use Rattle.sealing.specs.Checks.{Check, first}
+use Rattle.schemes.specs.Checks.{Check, first}
 
 abbrev picked : Bool → Type 0 → Type 0 → Type 0
 picked true A B = A

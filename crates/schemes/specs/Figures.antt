@@ -4,10 +4,10 @@
 use Prim.Native.Nat.{ℕ}
 use mathlib.Core.Bool.{Bool, true, false}
 use mathlib.Core.List.{List, [], _∷_}
-use Rattle.sealing.specs.declared.schemes.Named.{Named}
-use Rattle.sealing.specs.declared.schemes.Named.the-variants.{Known, Unknown}
-use Rattle.sealing.specs.Checks.{checked}
-use Rattle.sealing.specs.Schemes.{schemeOf}
+use Rattle.schemes.specs.declared.Named.{Named}
+use Rattle.schemes.specs.declared.Named.the-variants.{Known, Unknown}
+use Rattle.schemes.specs.Checks.{checked}
+use Rattle.schemes.specs.Schemes.{schemeOf}
 
 -- `input` is the body's length or, where the call is an open, the run's
 pub record Figure : Type 0 where

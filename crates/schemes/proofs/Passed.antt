@@ -1,24 +1,23 @@
--- What the checks say of the lengths, number by number: 0 exactly if all fit, a run is a block long at least and the room holds the
--- output; each other number exactly if its length is the first that does not. Assumes nothing.
+-- What the checks say of the lengths, number by number: 0 exactly if all fit, a run is a block long at least, the room holds the output, and
+-- the mode has a run for them; each other number exactly if its check is the first that does not pass. Assumes nothing.
 use mathlib.Core.Path.{_≡_, refl, ap}
 use mathlib.Core.Logic.{_↔_, Iff·rfl, Iff·trans, Iff·and}
-use Prim.Native.Nat.{ℕ, zero, suc, _+_, _≤_, _<_}
-use native.Mathlib.Omega.{arith}
-use mathlib.Core.Bool.{Bool, true, false, not}
+use Prim.Native.Nat.{ℕ, _+_, _≤_, _<_}
+use mathlib.Core.Bool.{Bool, true, false, not, cond, true≢false, false≢true}
 use mathlib.Core.List.{List, []}
 use lib.Dec.{eqb, ltb}
 use borrow.Author.Tests.{eqb-true, eqb-false, eq-eqb, ne-eqb, ltb-true, ltb-false, lt-ltb, le-ltb, not-true, not-false}
-use Rattle.sealing.specs.declared.schemes.Scheme.{Scheme}
-use Rattle.sealing.specs.Checks.{Check, checks, checkOf}
-use Rattle.sealing.specs.Calls.{Told, refused, passed}
-use Rattle.sealing.specs.Numbers.{Fitting}
-use Rattle.sealing.proofs.First.{Says, alone, absent, first-says, first-never}
+use Rattle.schemes.specs.declared.Scheme.{Scheme}
+use Rattle.states.specs.Modes.{takesBlank}
+use Rattle.schemes.specs.Checks.{Check, blank, checks, checkOf, Fitting}
+use Rattle.schemes.proofs.First.{Says, alone, absent, first-says, first-never}
 
 -- `more` and `room` as in checkOf: the output is `more` bytes longer than the body
 pub record Passed (s : Scheme) (key nonce header body more room : ℕ) : Type 0 where
   pub fit : Fitting s key nonce header
   pub body-fits : body ≤ s .body
   pub room-fits : body + more ≤ room
+  pub some : blank s header body ≡ false
 
 -- the number of a check, or 0 or 1: not 6, which is judged behind the checks, nor 9, which is the desk's program's
 pub record Plain (number : ℕ) : Type 0 where
@@ -41,6 +40,19 @@ within-passes a b = (ltb-false a b, le-ltb a b)
 
 within-fails : (a b : ℕ) → (ltb a b ≡ true) ↔ (a < b)
 within-fails a b = (ltb-true a b, lt-ltb a b)
+
+all-three : (a b c : Bool) → (cond a false (cond b c false) ≡ true) ↔ ((a ≡ false) × (b ≡ true) × (c ≡ true))
+all-three true b c = (λ e. absurd (false≢true e), λ t. absurd (true≢false (t .0)))
+all-three false true c = (λ e. (refl, refl, e), λ t. t .2)
+all-three false false c = (λ e. absurd (false≢true e), λ t. absurd (false≢true (t .1)))
+
+pub blank-is : (s : Scheme) (header body : ℕ) → (blank s header body ≡ true) ↔ ((takesBlank (s .kind) ≡ false) × (header ≡ 0) × (body ≡ 0))
+unfolding blank
+blank-is s header body =
+    let (to, from) = all-three (takesBlank (s .kind)) (eqb header 0) (eqb body 0) in (
+      λ e. let (k, h, b) = to e in (k, eqb-true header 0 h, eqb-true body 0 b),
+      λ t. from (t .0, eq-eqb header 0 (t .1), eq-eqb body 0 (t .2)),
+    )
 
 -- ---- the checks
 
@@ -101,30 +113,28 @@ module _ (s : Scheme) (key nonce header body : ℕ) (short : Bool) (more room : 
       Iff·trans (says 5 refl)
       (three-pass (Iff·and (within-passes (s .body) body) (Iff·and Iff·rfl (within-fails room (body + more)))))
 
+  pub check-10 : (number ≡ 10)
+      ↔ (Fitting s key nonce header × ((body ≤ s .body) × ((short ≡ false) × ((body + more ≤ room) × (blank s header body ≡ true)))))
+  check-10 =
+      Iff·trans (says 10 refl)
+      (three-pass
+      (Iff·and (within-passes (s .body) body) (Iff·and Iff·rfl (Iff·and (within-passes room (body + more)) Iff·rfl))))
+
   -- behind the last of them, 0 is answered because it is 0 (`Says 0 []`)
-  check-0 : (number ≡ 0) ↔ (Fitting s key nonce header × ((body ≤ s .body) × ((short ≡ false) × ((body + more ≤ room) × Says 0 []))))
+  check-0 : (number ≡ 0)
+      ↔ (Fitting s key nonce header
+      × ((body ≤ s .body) × ((short ≡ false) × ((body + more ≤ room) × ((blank s header body ≡ false) × Says 0 [])))))
   check-0 =
       Iff·trans (says 0 refl)
       (three-pass
       (Iff·and (within-passes (s .body) body) (Iff·and Iff·rfl (Iff·and (within-passes room (body + more)) Iff·rfl))))
 
   pub check-passed : number ≡ 0 → Passed s key nonce header body more room
-  check-passed e = let (f, (b, (_, (r, _)))) = check-0 .0 e in record { fit = f; body-fits = b; room-fits = r }
+  check-passed e =
+      let (f, (b, (_, (r, (m, _))))) = check-0 .0 e in record { fit = f; body-fits = b; room-fits = r; some = m }
 
   pub check-long : number ≡ 0 → short ≡ false
   check-long e = let (_, (_, (l, _))) = check-0 .0 e in l
 
   pub check-pass : Passed s key nonce header body more room → short ≡ false → number ≡ 0
-  check-pass p l = check-0 .1 (p .fit, (p .body-fits, (l, (p .room-fits, refl))))
-
--- ---- what is told then
-
--- where they answered 0, what comes behind them
-pub all-passed : (k : ℕ) (t : Told) (room : List ℕ) → k ≡ 0 → passed k t room ≡ t
-all-passed zero t room e = refl
-all-passed (suc k) t room e = absurd (omega arith)
-
--- another number, itself
-pub not-passed : (k : ℕ) (t : Told) (room : List ℕ) → (k ≡ 0 → ⊥) → passed k t room ≡ refused k room
-not-passed zero t room h = absurd (h refl)
-not-passed (suc k) t room h = refl
+  check-pass p l = check-0 .1 (p .fit, (p .body-fits, (l, (p .room-fits, (p .some, refl)))))

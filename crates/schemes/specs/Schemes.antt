@@ -1,15 +1,14 @@
 -- The schemes: their ciphers, modes, sizes and limits (01, the desk's document 01, the table of schemes). Assumes nothing.
-use mathlib.Core.Bool.{cond}
 use mathlib.Core.Path.{_≡_}
-use Prim.Native.Nat.{ℕ, _+_, _≤_}
-use lib.Dec.{eqb}
+use mathlib.Core.List.{List, [], _∷_}
+use Prim.Native.Nat.{ℕ, zero, suc, _+_, _≤_}
 use Rattle.ciphers.specs.declared.Cipher.the-variants.{N64T192, N128T256}
 use Rattle.ciphers.specs.Ciphers.{blockOf}
 use Rattle.states.specs.declared.Kind.the-variants.{Paef, Saef}
 use Rattle.states.specs.Modes.{tailOf}
-use Rattle.sealing.specs.declared.schemes.Scheme.{Scheme}
-use Rattle.sealing.specs.declared.schemes.Named.{Named}
-use Rattle.sealing.specs.declared.schemes.Named.the-variants.{Known, Unknown}
+use Rattle.schemes.specs.declared.Scheme.{Scheme}
+use Rattle.schemes.specs.declared.Named.{Named}
+use Rattle.schemes.specs.declared.Named.the-variants.{Known, Unknown}
 
 -- PAEF numbers blocks in thirteen bits: a header and a body have at most 8,191 of them (01, What a caller is told, 3)
 abbrev pub scheme1 : Scheme
@@ -22,10 +21,27 @@ scheme2 = record { cipher = N128T256; kind = Paef; key = 16; nonce = 14; header 
 abbrev pub scheme3 : Scheme
 scheme3 = record { cipher = N128T256; kind = Saef; key = 16; nonce = 15; header = 1048576; body = 1048576 }
 
+-- the schemes in the order of their numbers, which begin with 1
+abbrev pub table : List Scheme
+table =
+    scheme1
+    ∷ scheme2
+    ∷ scheme3
+    ∷ []
+
+abbrev pub row : List Scheme → ℕ → Named
+row [] i = Unknown
+row (s ∷ rows) zero = Known s
+row (s ∷ rows) (suc i) = row rows i
+
 -- the scheme that a number names
 unfoldable pub schemeOf : ℕ → Named
-schemeOf number =
-    cond (eqb number 1) (Known scheme1) (cond (eqb number 2) (Known scheme2) (cond (eqb number 3) (Known scheme3) Unknown))
+schemeOf zero = Unknown
+schemeOf (suc i) = row table i
+
+-- a number names a scheme, of which this holds
+abbrev pub Under : ℕ → (Scheme → Type 0) → Type 0
+Under number P = (s : Scheme) × (schemeOf number ≡ Known s) × P s
 
 -- what the walks ask of a scheme: a key of sixteen bytes, a nonce that fills the tweak, limits within which the rounds are a number of 32 bits
 pub record Fits (s : Scheme) : Type 0 where

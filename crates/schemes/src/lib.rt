@@ -1,8 +1,10 @@
 // The table of schemes. Nothing else counts them.
+pub mod checks;
+
 use ciphers::Cipher;
 use states::Kind;
 ghost use mathlib.Core.Path.{_≡_};
-ghost use Rattle.sealing.specs.Schemes.{schemeOf};
+ghost use Rattle.schemes.specs.Schemes.{schemeOf};
 
 // A scheme: cipher and mode, bytes of its key and nonce, and the most bytes of a header and of a body.
 pub struct Scheme {

@@ -1,9 +1,24 @@
 // The checks, on lengths alone, in the one order that holds.
-use crate::schemes::Scheme;
+use crate::Scheme;
+use states::takes_blank;
 ghost use mathlib.Core.Path.{_≡_};
 ghost use Prim.Native.Nat.{_≤_};
-ghost use Rattle.sealing.specs.Schemes.{Fits};
-ghost use Rattle.sealing.specs.Checks.{checkOf};
+ghost use Rattle.schemes.specs.Schemes.{Fits};
+ghost use Rattle.schemes.specs.Checks.{blank, checkOf};
+
+// Whether header and body are both empty, under a mode that has no run for them.
+fn is_blank(s: Scheme, header: usize, body: usize) -> bool
+    ensures { λ r. ⌜ r ≡ blank s header body ⌝ }
+{
+    let k = s.kind;
+    if takes_blank(k) {
+        return false;
+    }
+    if header != 0 {
+        return false;
+    }
+    body == 0
+}
 
 // The number of the first check that applies, or 0. short: the run is shorter than a block; more: by how much the output is
 // longer than the body.
@@ -38,6 +53,9 @@ pub fn check(
     }
     if room < need {
         return 5;
+    }
+    if is_blank(s, header, body) {
+        return 10;
     }
     0
 }

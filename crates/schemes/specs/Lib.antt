@@ -1,0 +1,3 @@
+pub mod Checks
+pub mod Figures
+pub mod Schemes
