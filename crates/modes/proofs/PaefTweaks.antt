@@ -17,7 +17,7 @@ use Rattle.modes.specs.Forkcipher.{Fork, Call}
 use Rattle.modes.specs.Mode.{walkFrom, walk, headed}
 use Rattle.modes.specs.Paef.{Sum, paefTweak, paefHead, paefBody, sumTweak, sumAsks, paef}
 use Rattle.modes.specs.Rounds.{callsFrom, headCalls, bodyCalls, sealCalls}
-use Rattle.modes.specs.Tweaks.{tweaks, paefTweaks, Distinct}
+use Rattle.modes.specs.Tweaks.{tweaks, sealTweaks, Distinct}
 use Rattle.cells.proofs.Choice.{either}
 use Rattle.modes.proofs.Rest.{before-last-none}
 use Rattle.modes.proofs.Tweaks.{same-number, before-few, tweaks-append, calls-long}
@@ -180,13 +180,13 @@ module _ (n : ℕ) (F : Fork) (nonce : List ℕ) (p : zero < n) where
       (calls-few nonce n 4 7 (paef n F nonce .next) _ _ (λ s x. (4, omega arith, omega arith, refl))
       (λ s x. (paefBody (full n (length x)), body-low _, body-high _, refl)) (λ s x. refl) _ body (headed-number noM header) p h)
 
-  pub paef-distinct : (header body : List ℕ) → length header ≤ 8191 * n → length body ≤ 8191 * n → Distinct (paefTweaks n F nonce header body)
-  unfolding paefTweaks sealCalls
+  pub paef-distinct : (header body : List ℕ) → length header ≤ 8191 * n → length body ≤ 8191 * n → Distinct (sealTweaks n (paef n F nonce) header body)
+  unfolding sealTweaks sealCalls
   paef-distinct header body hh hb =
       subst Distinct (sym (tweaks-append _ _))
       (distinct nonce _ _ (head-few (none (length body)) header hh) (body-few (none (length body)) header body hb))
 
   -- where header and body are empty there is one block
-  pub paef-one : length (paefTweaks n F nonce [] []) ≡ 1
-  unfolding paefTweaks sealCalls headCalls callsFrom tweaks
+  pub paef-one : length (sealTweaks n (paef n F nonce) [] []) ≡ 1
+  unfolding sealTweaks sealCalls headCalls callsFrom tweaks
   paef-one = rw (before-last-none n 0 p (omega arith))

@@ -52,7 +52,7 @@ module _ {St : Type 0} (cost : Want → ℕ) (n b l : ℕ) (step : St → List �
   from-total (suc m) s x = omega (arith, hm s (take n x), from-total m (step s (take n x)) (drop n x), suc-mul m b)
 
 -- m blocks and the last, of one cost; e says that there are none
-flat : (e : Bool) (m b : ℕ) → cond e 0 (m * b + b) ≡ cond e 0 (m + 1) * b
+pub flat : (e : Bool) (m b : ℕ) → cond e 0 (m * b + b) ≡ cond e 0 (m + 1) * b
 flat true m b = omega arith
 flat false m b = omega (arith, suc-mul m b)
 

@@ -3,9 +3,8 @@ use mathlib.Core.Path.{_≡_}
 use Prim.Native.Nat.{ℕ, _<_}
 use mathlib.Core.List.{List, [], _∷_}
 use lib.ListN.{length, getD}
-use Rattle.modes.specs.Forkcipher.{Fork, Call}
+use Rattle.modes.specs.Forkcipher.{Call}
 use Rattle.modes.specs.Mode.{Mode}
-use Rattle.modes.specs.Paef.{paef}
 use Rattle.modes.specs.Rounds.{sealCalls}
 
 unfoldable pub tweaks : List Call → List (List ℕ)
@@ -15,10 +14,6 @@ tweaks (c ∷ cs) = c .tweak ∷ tweaks cs
 -- of a record that is sealed
 unfoldable pub sealTweaks : {St : Type 0} → ℕ → Mode St → (header body : List ℕ) → List (List ℕ)
 sealTweaks n M header body = tweaks (sealCalls n M header body)
-
--- PAEF's, of a record that is sealed (001, figure 5: enc 6, 11, 15 and 20, 28, 31)
-unfoldable pub paefTweaks : ℕ → Fork → List ℕ → (header body : List ℕ) → List (List ℕ)
-paefTweaks n F nonce header body = tweaks (sealCalls n (paef n F nonce) header body)
 
 -- no two entries are the same
 pub record Distinct (xs : List (List ℕ)) : Type 0 where

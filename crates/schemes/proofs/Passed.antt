@@ -5,6 +5,7 @@ use mathlib.Core.Logic.{_↔_, Iff·rfl, Iff·trans, Iff·and}
 use Prim.Native.Nat.{ℕ, _+_, _≤_, _<_}
 use mathlib.Core.Bool.{Bool, true, false, not, cond, true≢false, false≢true}
 use mathlib.Core.List.{List, []}
+use native.Mathlib.Omega.{arith}
 use lib.Dec.{eqb, ltb}
 use borrow.Author.Tests.{eqb-true, eqb-false, eq-eqb, ne-eqb, ltb-true, ltb-false, lt-ltb, le-ltb, not-true, not-false}
 use Rattle.schemes.specs.declared.Scheme.{Scheme}
@@ -53,6 +54,14 @@ blank-is s header body =
       λ e. let (k, h, b) = to e in (k, eqb-true header 0 h, eqb-true body 0 b),
       λ t. from (t .0, eq-eqb header 0 (t .1), eq-eqb body 0 (t .2)),
     )
+
+-- one byte of either is enough
+pub not-blank : (s : Scheme) (header body : ℕ) → 0 < header + body → blank s header body ≡ false
+not-blank s header body h = go (blank s header body) refl
+  where
+    go : (b : Bool) → blank s header body ≡ b → blank s header body ≡ false
+    go true e = let (_, none, empty) = blank-is s header body .0 e in absurd (omega arith)
+    go false e = e
 
 -- ---- the checks
 

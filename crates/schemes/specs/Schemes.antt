@@ -1,10 +1,10 @@
--- The schemes: their ciphers, modes, sizes and limits (01, the desk's document 01, the table of schemes). Assumes nothing.
+-- The schemes: their ciphers, modes, sizes and limits (01, the desk's document 01, the table of schemes; C-14). Assumes nothing.
 use mathlib.Core.Path.{_≡_}
 use mathlib.Core.List.{List, [], _∷_}
 use Prim.Native.Nat.{ℕ, zero, suc, _+_, _≤_}
 use Rattle.ciphers.specs.declared.Cipher.the-variants.{N64T192, N128T256}
 use Rattle.ciphers.specs.Ciphers.{blockOf}
-use Rattle.states.specs.declared.Kind.the-variants.{Paef, Saef}
+use Rattle.states.specs.declared.Kind.the-variants.{Paef, Saef, Umbreon, Jolteon}
 use Rattle.states.specs.Modes.{tailOf}
 use Rattle.schemes.specs.declared.Scheme.{Scheme}
 use Rattle.schemes.specs.declared.Named.{Named}
@@ -21,12 +21,30 @@ scheme2 = record { cipher = N128T256; kind = Paef; key = 16; nonce = 14; header 
 abbrev pub scheme3 : Scheme
 scheme3 = record { cipher = N128T256; kind = Saef; key = 16; nonce = 15; header = 1048576; body = 1048576 }
 
+-- Umbreon and Jolteon (C-14) number in fourteen bits the header's blocks but the last, from 5 on, and in fifteen the body's but the last, from 2 on
+-- (000, figure 9, lines 20 and 50): 16,380 and 32,767 blocks with the last
+abbrev pub scheme4 : Scheme
+scheme4 = record { cipher = N64T192; kind = Umbreon; key = 16; nonce = 6; header = 131040; body = 262136 }
+
+abbrev pub scheme5 : Scheme
+scheme5 = record { cipher = N64T192; kind = Jolteon; key = 16; nonce = 6; header = 131040; body = 262136 }
+
+abbrev pub scheme6 : Scheme
+scheme6 = record { cipher = N128T256; kind = Umbreon; key = 16; nonce = 14; header = 262080; body = 524272 }
+
+abbrev pub scheme7 : Scheme
+scheme7 = record { cipher = N128T256; kind = Jolteon; key = 16; nonce = 14; header = 262080; body = 524272 }
+
 -- the schemes in the order of their numbers, which begin with 1
 abbrev pub table : List Scheme
 table =
     scheme1
     ∷ scheme2
     ∷ scheme3
+    ∷ scheme4
+    ∷ scheme5
+    ∷ scheme6
+    ∷ scheme7
     ∷ []
 
 abbrev pub row : List Scheme → ℕ → Named

@@ -55,5 +55,45 @@ pub fn scheme_of(number: u32) -> Named
             body: 1048576,
         });
     }
+    if number == 4 {
+        return Named::Known(Scheme {
+            cipher: Cipher::N64T192,
+            kind: Kind::Umbreon,
+            key: 16,
+            nonce: 6,
+            header: 131040,
+            body: 262136,
+        });
+    }
+    if number == 5 {
+        return Named::Known(Scheme {
+            cipher: Cipher::N64T192,
+            kind: Kind::Jolteon,
+            key: 16,
+            nonce: 6,
+            header: 131040,
+            body: 262136,
+        });
+    }
+    if number == 6 {
+        return Named::Known(Scheme {
+            cipher: Cipher::N128T256,
+            kind: Kind::Umbreon,
+            key: 16,
+            nonce: 14,
+            header: 262080,
+            body: 524272,
+        });
+    }
+    if number == 7 {
+        return Named::Known(Scheme {
+            cipher: Cipher::N128T256,
+            kind: Kind::Jolteon,
+            key: 16,
+            nonce: 14,
+            header: 262080,
+            body: 524272,
+        });
+    }
     Named::Unknown
 }

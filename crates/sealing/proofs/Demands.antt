@@ -63,7 +63,7 @@ open-forged scheme s key nonce header run room known =
     rw (open-known scheme s known key nonce header run room) (forged-under s key nonce header run room)
 
 -- an unknown scheme is 1, before all else
-pub unknown : (scheme : ℕ) (key nonce header input room : List ℕ) → (1 ≤ scheme → scheme ≤ 3 → ⊥)
+pub unknown : (scheme : ℕ) (key nonce header input room : List ℕ) → (1 ≤ scheme → scheme ≤ 7 → ⊥)
     → (sealOf scheme key nonce header input room ≡ refused 1 room) × (openOf scheme key nonce header input room ≡ refused 1 room)
 unfolding sealOf openOf
 unknown scheme key nonce header input room h = (rw (none-named scheme h), rw (none-named scheme h))
@@ -118,7 +118,7 @@ same-forged scheme key nonce header run key′ nonce′ header′ run′ room h 
     let q = ap (λ (t : Told). t .rounds) (sym f) ∙ same ∙ ap (λ (t : Told). t .rounds) f′ in
     f ∙ (λ i. forged (q i) (l i - blockOf (s .cipher)) room) ∙ sym f′
 
--- ---- demand 2: what is computed is PAEF and SAEF over ForkSkinny as published
+-- ---- demand 2: what is computed is PAEF and SAEF over ForkSkinny as published (Umbreon and Jolteon: Meters.antt)
 
 module _ (key nonce header body room : List ℕ) where
   pub seal-1 : Admitted 1 scheme1 key nonce header → length body ≤ 65528 → length body + 8 ≤ length room

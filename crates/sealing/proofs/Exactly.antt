@@ -15,9 +15,10 @@ use Rattle.modes.specs.Mode.{Mode}
 use Rattle.modes.specs.Lawful.{Lawful}
 use Rattle.modes.proofs.Exact.{seal-run-block, seal-open, exact, unique, refused-iff}
 use Rattle.modes.proofs.PaefLaws.{SumOk, paef-lawful}
+use Rattle.modes.proofs.EeveeLaws.{ChainOk, umbreon-lawful, jolteon-lawful}
 use Rattle.modes.proofs.SaefLaws.{MaskOk, saef-lawful}
 use Rattle.states.specs.declared.Kind.{Kind}
-use Rattle.states.specs.declared.Kind.the-variants.{Paef, Saef}
+use Rattle.states.specs.declared.Kind.the-variants.{Paef, Saef, Umbreon, Jolteon}
 use Rattle.states.specs.Modes.{Carried, modeOf, tailOf, roundsOf}
 use Rattle.states.specs.Skinny.{skinny}
 use Rattle.states.proofs.Laws.{skinny-laws}
@@ -35,12 +36,16 @@ use Rattle.sealing.proofs.Sums.{seal-sum, open-sum}
 abbrev OkOf : (k : Kind) → ℕ → Carried k → Type 0
 OkOf Paef n = SumOk n
 OkOf Saef n = MaskOk n
+OkOf Umbreon n = ChainOk n
+OkOf Jolteon n = ChainOk n
 
 -- the nonce and the bytes behind it fill the tweak
 mode-lawful : (k : Kind) (c : Cipher) (key nonce : List ℕ) (ν : ℕ) → ν + tailOf k ≡ blockOf c → Bytes key → Block ν nonce
     → Lawful (blockOf c) (modeOf k c key nonce) (OkOf k (blockOf c))
 mode-lawful Paef c key nonce ν e hk hn = paef-lawful (blockOf c) ν (skinny c key) (skinny-laws c key hk) e nonce hn
 mode-lawful Saef c key nonce ν e hk hn = saef-lawful (blockOf c) ν (skinny c key) (skinny-laws c key hk) e nonce hn
+mode-lawful Umbreon c key nonce ν e hk hn = umbreon-lawful (blockOf c) ν (skinny c key) (skinny-laws c key hk) e nonce hn
+mode-lawful Jolteon c key nonce ν e hk hn = jolteon-lawful (blockOf c) ν (skinny c key) (skinny-laws c key hk) e nonce hn
 
 module _ (number : ℕ) (s : Scheme) (key nonce header : List ℕ) (ok : Admitted number s key nonce header) where
   abbrev n : ℕ

@@ -5,6 +5,7 @@ mod Counted
 pub mod Demands
 pub mod Exactly
 mod Known
+pub mod Meters
 pub mod Numbers
 pub mod Prepared
 pub mod Rounds

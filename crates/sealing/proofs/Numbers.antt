@@ -42,7 +42,7 @@ module _ (opens : Bool) (scheme : ℕ) (key nonce header input room : List ℕ) 
       said key nonce header input room opens scheme k not-1 Q λ s. Iff·trans (after-check _ _ k not-0 not-6) (f s)
 
   -- 1: no scheme has this number
-  pub says-1 : (number ≡ 1) ↔ (1 ≤ scheme → scheme ≤ 3 → ⊥)
+  pub says-1 : (number ≡ 1) ↔ (1 ≤ scheme → scheme ≤ 7 → ⊥)
   says-1 = Iff·trans (said-1 key nonce header input room opens scheme) (unnamed scheme)
 
   -- 2: a known scheme, and a key of another length

@@ -144,7 +144,7 @@ module _ (scheme : ℕ) (key nonce header : List ℕ) where
 
 -- it refuses as the checks do: 1 for an unknown scheme, 3 for the header, 8 for the body, 10 for both empty under a mode that has no run for them
 module _ (scheme header body : ℕ) where
-  pub budget-1 : (budgetOf scheme header body .number ≡ 1) ↔ (1 ≤ scheme → scheme ≤ 3 → ⊥)
+  pub budget-1 : (budgetOf scheme header body .number ≡ 1) ↔ (1 ≤ scheme → scheme ≤ 7 → ⊥)
   budget-1 = Iff·trans (budget-unknown scheme header body) (unnamed scheme)
 
   pub budget-3 : (budgetOf scheme header body .number ≡ 3) ↔ Under scheme (λ s. s .header < header)

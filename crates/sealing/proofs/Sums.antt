@@ -8,10 +8,10 @@ use Rattle.ciphers.specs.declared.Cipher.the-variants.{N64T192, N128T256}
 use Rattle.ciphers.specs.Ciphers.{blockOf}
 use Rattle.ciphers.proofs.Laws.{block-some}
 use Rattle.forkskinny.specs.Calls.{wants, forkRounds, unforkRounds}
-use Rattle.modes.specs.Forkcipher.{bothHalves, bothBack}
-use Rattle.modes.proofs.Rounds.{Priced, seal-total, open-total, paef-priced, saef-priced}
+use Rattle.modes.specs.Forkcipher.{half0, bothHalves, inputBack, bothBack}
+use Rattle.modes.proofs.Rounds.{Priced, seal-total, open-total, paef-priced, saef-priced, umbreon-priced, jolteon-priced}
 use Rattle.states.specs.declared.Kind.{Kind}
-use Rattle.states.specs.declared.Kind.the-variants.{Paef, Saef}
+use Rattle.states.specs.declared.Kind.the-variants.{Paef, Saef, Umbreon, Jolteon}
 use Rattle.states.specs.Modes.{modeOf, pricesOf, roundsOf}
 use Rattle.states.specs.Skinny.{skinny, costOf}
 use Rattle.schemes.specs.declared.Scheme.{Scheme}
@@ -22,11 +22,18 @@ unfolding forkRounds unforkRounds wants
 back-as-forth N64T192 = refl
 back-as-forth N128T256 = refl
 
+input-as-half : (c : Cipher) → costOf c inputBack ≡ costOf c half0
+unfolding forkRounds unforkRounds wants
+input-as-half N64T192 = refl
+input-as-half N128T256 = refl
+
 -- the blocks of a mode cost what they ask for
 mode-priced : (k : Kind) (c : Cipher) (key nonce : List ℕ)
     → Priced (costOf c) (modeOf k c key nonce) (pricesOf k c .head) (pricesOf k c .block) (pricesOf k c .last)
 mode-priced Paef c key nonce = paef-priced (blockOf c) (skinny c key) nonce (costOf c) (back-as-forth c)
 mode-priced Saef c key nonce = saef-priced (blockOf c) (skinny c key) nonce (costOf c) (back-as-forth c)
+mode-priced Umbreon c key nonce = umbreon-priced (blockOf c) (skinny c key) nonce (costOf c) (back-as-forth c)
+mode-priced Jolteon c key nonce = jolteon-priced (blockOf c) (skinny c key) nonce (costOf c) (back-as-forth c) (input-as-half c)
 
 module _ (s : Scheme) (key nonce header : List ℕ) where
   abbrev n : ℕ

@@ -1,4 +1,4 @@
--- The figures of C-13 (document 02), two tables: the rounds of the block calls, and those of records by their lengths. Assumes nothing.
+-- The figures of C-13 (document 02; schemes 4 to 7 are C-14's), two tables: the rounds of the block calls, and those of records by their lengths. Assumes nothing.
 use Prim.Native.Nat.{ℕ}
 use mathlib.Core.Bool.{Bool, true, false, cond}
 use mathlib.Core.List.{List, [], _∷_}
@@ -107,13 +107,39 @@ recordFigures =
     ∷ takes 1 65528 65528 843673
     ∷ takes 2 131056 131056 1007493
     ∷ takes 3 1048576 1048576 8060928
+    -- Umbreon and Jolteon: an empty header, or an empty body, and the same where the body has one block
+    ∷ takes 4 0 1 63
+    ∷ takes 5 0 1 63
+    ∷ takes 6 0 1 75
+    ∷ takes 7 0 1 75
+    ∷ takes 4 1 0 40
+    ∷ takes 5 1 0 40
+    ∷ takes 6 1 0 48
+    ∷ takes 7 1 0 48
+    -- 2 * 40 + 4 * 63, and 2 * 40 + 3 * 40 + 63; 48 + 2 * 75, and 48 + 48 + 75
+    ∷ takes 4 16 32 332
+    ∷ takes 5 16 32 263
+    ∷ takes 6 16 32 198
+    ∷ takes 7 16 32 171
+    -- their longest
+    ∷ takes 4 131040 262136 2719521
+    ∷ takes 5 131040 262136 1965903
+    ∷ takes 6 262080 524272 3243765
+    ∷ takes 7 262080 524272 2359083
     -- refused: a byte too long, header before body, and no such scheme
     ∷ refuses 1 65529 0 3
     ∷ refuses 1 0 65529 8
     ∷ refuses 2 131057 131057 3
     ∷ refuses 3 0 1048577 8
     ∷ refuses 0 0 0 1
-    ∷ refuses 4 0 0 1
+    ∷ refuses 8 0 0 1
+    -- and header and body both empty
+    ∷ refuses 4 0 0 10
+    ∷ refuses 5 0 0 10
+    ∷ refuses 6 0 0 10
+    ∷ refuses 7 0 0 10
+    ∷ refuses 4 131041 0 3
+    ∷ refuses 7 0 524273 8
     ∷ []
 
 abbrev pub recordsTold : List RecordFigure → List Budget

@@ -16,7 +16,7 @@ use Rattle.modes.specs.Forkcipher.{half0, bothHalves}
 use Rattle.modes.specs.Rounds.{blocks, headBlocks, roundsBy}
 use Rattle.modes.proofs.Rounds.{before-last-few, head-blocks-few, rounds-few}
 use Rattle.states.specs.declared.Kind.{Kind}
-use Rattle.states.specs.declared.Kind.the-variants.{Paef, Saef}
+use Rattle.states.specs.declared.Kind.the-variants.{Paef, Saef, Umbreon, Jolteon}
 use Rattle.states.specs.declared.Prices.{Prices}
 use Rattle.states.specs.Skinny.{costOf}
 use Rattle.states.specs.Modes.{pricesOf, roundsOf}
@@ -45,6 +45,8 @@ both-low N128T256 = lit≤ tt
 prices-low : (k : Kind) (c : Cipher) → Low (pricesOf k c)
 prices-low Paef c = record { head = one-low c; block = both-low c; last = both-low c }
 prices-low Saef c = record { head = one-low c; block = both-low c; last = both-low c }
+prices-low Umbreon c = record { head = one-low c; block = both-low c; last = both-low c }
+prices-low Jolteon c = record { head = one-low c; block = one-low c; last = both-low c }
 
 -- so that the rounds of a record are a number of 32 bits
 pub rounds-fit : (k : Kind) (c : Cipher) (header body : ℕ) → header ≤ 16777216 → body ≤ 16777216 → roundsOf k c header body ≤ 536870912
