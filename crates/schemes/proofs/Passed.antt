@@ -8,8 +8,8 @@ use mathlib.Core.List.{List, []}
 use native.Mathlib.Omega.{arith}
 use lib.Dec.{eqb, ltb}
 use borrow.Author.Tests.{eqb-true, eqb-false, eq-eqb, ne-eqb, ltb-true, ltb-false, lt-ltb, le-ltb, not-true, not-false}
-use Rattle.schemes.specs.declared.Scheme.{Scheme}
 use Rattle.states.specs.Modes.{takesBlank}
+use Rattle.schemes.specs.declared.Scheme.{Scheme}
 use Rattle.schemes.specs.Checks.{Check, blank, checks, checkOf, Fitting}
 use Rattle.schemes.proofs.First.{Says, alone, absent, first-says, first-never}
 
@@ -50,9 +50,9 @@ all-three false false c = (λ e. absurd (false≢true e), λ t. absurd (false≢
 pub blank-is : (s : Scheme) (header body : ℕ) → (blank s header body ≡ true) ↔ ((takesBlank (s .kind) ≡ false) × (header ≡ 0) × (body ≡ 0))
 unfolding blank
 blank-is s header body =
-    let (to, from) = all-three (takesBlank (s .kind)) (eqb header 0) (eqb body 0) in (
-      λ e. let (k, h, b) = to e in (k, eqb-true header 0 h, eqb-true body 0 b),
-      λ t. from (t .0, eq-eqb header 0 (t .1), eq-eqb body 0 (t .2)),
+    let (to, from) = all-three (takesBlank (s .kind)) (eqb body 0) (eqb header 0) in (
+      λ e. let (k, b, h) = to e in (k, eqb-true header 0 h, eqb-true body 0 b),
+      λ t. from (t .0, eq-eqb body 0 (t .2), eq-eqb header 0 (t .1)),
     )
 
 -- one byte of either is enough

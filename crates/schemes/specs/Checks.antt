@@ -23,7 +23,7 @@ first (c ∷ cs) = cond (c .applies) (c .number) (first cs)
 
 -- header and body are both empty, under a mode that has no run for them (000, figure 9, line 29: no run where |M| = |A| = 0)
 unfoldable pub blank : Scheme → (header body : ℕ) → Bool
-blank s header body = cond (takesBlank (s .kind)) false (cond (eqb header 0) (eqb body 0) false)
+blank s header body = cond (takesBlank (s .kind)) false (cond (eqb body 0) (eqb header 0) false)
 
 -- `short`: the sealed run is shorter than a block. `more`: by how much the output is longer than the body.
 abbrev pub checks : Scheme → (key nonce header body : ℕ) (short : Bool) (more room : ℕ) → List Check

@@ -14,10 +14,10 @@ fn is_blank(s: Scheme, header: usize, body: usize) -> bool
     if takes_blank(k) {
         return false;
     }
-    if header != 0 {
+    if body != 0 {
         return false;
     }
-    body == 0
+    header == 0
 }
 
 // The number of the first check that applies, or 0. short: the run is shorter than a block; more: by how much the output is

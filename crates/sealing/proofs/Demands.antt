@@ -3,7 +3,6 @@
 -- the calls end and answer so is what their contracts say. Assumes nothing.
 use mathlib.Core.Path.{_≡_, refl, sym, ap, _∙_}
 use Prim.Native.Nat.{ℕ, _+_, _-_, _≤_, _<_}
-use native.Mathlib.Omega.{arith}
 use mathlib.Core.Logic.{_↔_, inr}
 use mathlib.Core.Bool.{true, false}
 use mathlib.Core.List.{List}
@@ -166,7 +165,8 @@ module _ (c : Cipher) (key tweak m : List ℕ) (hk : Bytes key) (ht : Bytes twea
   pub half-other : unforkOther c key tweak (forkOne c key tweak m h) h ≡ forkOne c key tweak m (otherOf h)
   half-other = condition-2 c key tweak hk ht h two m hm
 
--- ---- demand 3: under one scheme, an admitted key, nonce and header, and a room large enough
+-- ---- demand 3: under one scheme, an admitted key, nonce and header, and a room large enough; where header and body are both empty and the
+-- mode has no run for them (`blank`, C-14), nothing is sealed or opened
 
 module _ (number : ℕ) (s : Scheme) (key nonce header : List ℕ) (ok : Admitted number s key nonce header) where
   -- open of what seal wrote gives back the body, in any room that takes it, and for as many rounds
@@ -213,7 +213,7 @@ module _ (number : ℕ) (s : Scheme) (key nonce header : List ℕ) (ok : Admitte
         → openOf number key nonce header run room ≡ refused 10 room
     blanks-refused = open-blank number s key nonce header ok run room
 
-    -- and with 6, if it has the length of a sealed body
+    -- and else with 6, if it has the length of a sealed body
     pub others-forged : ((body : List ℕ) → SealsTo s key nonce header body run → ⊥)
         → blockOf (s .cipher) ≤ length run → length run ≤ s .body + blockOf (s .cipher)
         → blank s (length header) (length run - blockOf (s .cipher)) ≡ false
