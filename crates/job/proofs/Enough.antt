@@ -30,10 +30,20 @@ pub record Wide (s : Scheme) : Type 0 where
 
 pub wide : (number : ℕ) (s : Scheme) → schemeOf number ≡ Known s → Wide s
 wide =
-    each-named Wide
-    (record { key = refl; header = omega arith; body = omega arith })
-    (record { key = refl; header = omega arith; body = omega arith })
-    (record { key = refl; header = omega arith; body = omega arith })
+    each-named Wide (
+      record { key = refl; header = omega arith; body = omega arith }, (
+        record { key = refl; header = omega arith; body = omega arith }, (
+          record { key = refl; header = omega arith; body = omega arith }, (
+            record { key = refl; header = omega arith; body = omega arith }, (
+              record { key = refl; header = omega arith; body = omega arith }, (
+                record { key = refl; header = omega arith; body = omega arith },
+                (record { key = refl; header = omega arith; body = omega arith }, tt),
+              ),
+            ),
+          ),
+        ),
+      ),
+    )
 
 -- a body is no longer than the input, and an output by sixteen bytes at most
 body-most : (opens : Bool) (s : Scheme) (l : ℕ) → bodyIn opens s l ≤ l

@@ -139,12 +139,11 @@ module _ (key nonce header : List ℕ) where
 -- what a header's costs, and for the last what Umbreon's does
 
 -- where not both are empty, the header's blocks are all there are
-heads : (t h b : Bool) (x y : ℕ) → t ≡ false → cond t false (cond h b false) ≡ false → cond (b && h) x y ≡ y
-heads true h b x y e n = absurd (true≢false e)
+heads : (t b h : Bool) (x y : ℕ) → t ≡ false → cond t false (cond b h false) ≡ false → cond (b && h) x y ≡ y
+heads true b h x y e n = absurd (true≢false e)
 heads false true true x y e n = absurd (true≢false n)
 heads false true false x y e n = refl
-heads false false true x y e n = refl
-heads false false false x y e n = refl
+heads false false h x y e n = refl
 
 by-lengths : (scheme : ℕ) (s : Scheme) → schemeOf scheme ≡ Known s → takesBlank (s .kind) ≡ false → (key nonce header input room : List ℕ) (opens : Bool)
     → Worked (answered opens scheme key nonce header input room .number)
@@ -161,7 +160,7 @@ by-lengths scheme s known none-there key nonce header input room opens w =
     let n = blockOf (s .cipher) in
     of-named _ scheme s known (worked-rounds scheme key nonce header input room opens w)
     ∙ ap (λ (k : ℕ). k * p .head + cond (none body) 0 (beforeLast n body * p .block + p .last))
-    (heads (takesBlank (s .kind)) (none (length header)) (none body) 1 (blocks n (length header)) none-there (passed .some))
+    (heads (takesBlank (s .kind)) (none body) (none (length header)) 1 (blocks n (length header)) none-there (passed .some))
 
 -- the last block costs what the others do
 flat-some : (n one both header body : ℕ)
