@@ -4,7 +4,7 @@
 
 use crate::blocks::{load_block, xor, Block};
 use crate::schemes::{Keyed, Mode};
-use crate::{paef, saef};
+use crate::{eevee, jolteon, paef, saef, umbreon};
 
 /// The last block of a body and how many bytes of it are said to be body.
 pub struct LastBlock {
@@ -17,6 +17,8 @@ pub fn forged_run(keyed: &mut Keyed, header: &[u8], whole: &[u8], last: &LastBlo
     match keyed.scheme.mode {
         Mode::Paef => forged_paef(keyed, header, whole, last),
         Mode::Saef => forged_saef(keyed, header, whole, last),
+        Mode::Umbreon => forged_eevee(keyed, umbreon::seal_front, header, whole, last),
+        Mode::Jolteon => forged_eevee(keyed, jolteon::seal_front, header, whole, last),
     }
 }
 
@@ -55,5 +57,22 @@ fn forged_saef(keyed: &mut Keyed, header: &[u8], whole: &[u8], last: &LastBlock)
     let (half0, half1) = keyed.both(&tweak, &xor(&last.block, &delta));
     run.extend(xor(&half0, &delta));
     run.extend(&half1[..last.body_bytes]);
+    run
+}
+
+/// 000, figure 9, lines 38 to 75 without the padding of line 35.
+fn forged_eevee(
+    keyed: &mut Keyed,
+    seal_front: eevee::Front,
+    header: &[u8],
+    whole: &[u8],
+    last: &LastBlock,
+) -> Vec<u8> {
+    let sum = eevee::header_sum(keyed, header, false);
+    let mut run = vec![0; whole.len()];
+    let added = seal_front(keyed, sum, whole, &mut run);
+    let (sealed, tag) = eevee::seal_last(keyed, &added, &last.block, false);
+    run.extend(&sealed[..last.body_bytes]);
+    run.extend(&tag[..keyed.scheme.block_bytes]);
     run
 }

@@ -10,8 +10,8 @@ pub const MALFORMED: u32 = 9;
 /// Bytes of a job at most.
 pub const MOST_BYTES: usize = 16_384;
 
-/// The longest block of the three schemes. With so much more room than the
-/// body takes, no output is too long.
+/// The longest block of any scheme. With so much more room than the body takes,
+/// no output is too long.
 const LONGEST_BLOCK: usize = 16;
 
 /// Seal or open.

@@ -1,10 +1,11 @@
 //! Seal, open and view (document 01, "What a caller is told", with the
-//! refusals of C-11, the limits of C-12, the rounds of C-13 and the prepared
-//! keys of C-16). The first check that applies answers.
+//! refusals of C-11 and C-14, the limits of C-12, the rounds of C-13 and the
+//! prepared keys of C-16). The first check that applies answers.
 
 use crate::prepared::Prepared;
 use crate::schemes::{Keyed, Mode, Scheme, KEY_BYTES};
-use crate::{paef, saef};
+use crate::{eevee, jolteon, paef, saef, umbreon};
+use std::iter::once;
 
 pub const DONE: u32 = 0;
 pub const UNKNOWN_SCHEME: u32 = 1;
@@ -15,11 +16,13 @@ pub const HEADER_TOO_LONG: u32 = 3;
 pub const BODY_TOO_LONG: u32 = 8;
 pub const NO_BLOCK: u32 = 4;
 pub const SHORT_ROOM: u32 = 5;
+/// Header and body both empty, where the scheme does not seal that.
+pub const NOTHING: u32 = 10;
 pub const NOT_AUTHENTIC: u32 = 6;
 
 /// The refusals in the order of their checks, which is not that of their
 /// numbers.
-const REFUSALS: [u32; 8] = [
+const REFUSALS: [u32; 9] = [
     UNKNOWN_SCHEME,
     WRONG_KEY_LENGTH,
     WRONG_NONCE_LENGTH,
@@ -27,11 +30,14 @@ const REFUSALS: [u32; 8] = [
     BODY_TOO_LONG,
     NO_BLOCK,
     SHORT_ROOM,
+    NOTHING,
     NOT_AUTHENTIC,
 ];
 
-/// How many numbers an answer can have: they begin with 0 and leave none out.
-pub const NUMBERS: usize = 1 + REFUSALS.len();
+/// The numbers that an answer can have.
+pub fn numbers() -> impl Iterator<Item = u32> {
+    once(DONE).chain(REFUSALS)
+}
 
 /// The answer where these refusals apply.
 pub fn first_of(applying: &[u32]) -> u32 {
@@ -94,8 +100,13 @@ fn find<'a>(
 
 /// Refusals 3 and 8.
 fn judge_lengths(scheme: &Scheme, header: usize, body: usize) -> Result<(), u32> {
-    refuse_if(header > scheme.most_bytes(), HEADER_TOO_LONG)?;
-    refuse_if(body > scheme.most_bytes(), BODY_TOO_LONG)
+    refuse_if(header > scheme.most_header_bytes(), HEADER_TOO_LONG)?;
+    refuse_if(body > scheme.most_body_bytes(), BODY_TOO_LONG)
+}
+
+/// Refusal 10.
+fn judge_emptiness(scheme: &Scheme, header: usize, body: usize) -> Result<(), u32> {
+    refuse_if((header, body) == (0, 0) && !scheme.seals_nothing(), NOTHING)
 }
 
 fn try_seal(keyed: &mut Keyed, header: &[u8], body: &[u8], room: &mut [u8]) -> Result<usize, u32> {
@@ -103,9 +114,12 @@ fn try_seal(keyed: &mut Keyed, header: &[u8], body: &[u8], room: &mut [u8]) -> R
     judge_lengths(scheme, header.len(), body.len())?;
     let length = body.len() + scheme.block_bytes;
     let output = room.get_mut(..length).ok_or(SHORT_ROOM)?;
+    judge_emptiness(scheme, header.len(), body.len())?;
     match scheme.mode {
         Mode::Paef => paef::seal(keyed, header, body, output),
         Mode::Saef => saef::seal(keyed, header, body, output),
+        Mode::Umbreon => eevee::seal(keyed, umbreon::seal_front, header, body, output),
+        Mode::Jolteon => eevee::seal(keyed, jolteon::seal_front, header, body, output),
     }
     Ok(length)
 }
@@ -117,9 +131,12 @@ fn try_open(keyed: &mut Keyed, header: &[u8], run: &[u8], room: &mut [u8]) -> Re
     judge_lengths(scheme, header.len(), length.unwrap_or(0))?;
     let length = length.ok_or(NO_BLOCK)?;
     let output = room.get_mut(..length).ok_or(SHORT_ROOM)?;
+    judge_emptiness(scheme, header.len(), length)?;
     let authentic = match scheme.mode {
         Mode::Paef => paef::open(keyed, header, run, output),
         Mode::Saef => saef::open(keyed, header, run, output),
+        Mode::Umbreon => eevee::open(keyed, umbreon::open_front, header, run, output),
+        Mode::Jolteon => eevee::open(keyed, jolteon::open_front, header, run, output),
     };
     if authentic {
         Ok(length)
@@ -185,6 +202,7 @@ pub fn open_prepared(
 fn count(scheme: u32, header: usize, body: usize) -> Result<u32, u32> {
     let row = Scheme::find(scheme).ok_or(UNKNOWN_SCHEME)?;
     judge_lengths(row, header, body)?;
+    judge_emptiness(row, header, body)?;
     let [nonce, header, body] = [row.nonce_bytes, header, body].map(|length| vec![0; length]);
     let mut room = vec![0; body.len() + row.block_bytes];
     let answer = seal(scheme, &[0; KEY_BYTES], &nonce, &header, &body, &mut room);
@@ -192,7 +210,7 @@ fn count(scheme: u32, header: usize, body: usize) -> Result<u32, u32> {
 }
 
 /// How many rounds a seal of these lengths runs, and an open of its run.
-/// Refused with 1, 3 or 8, in this order, as the seal would be.
+/// Refused with 1, 3, 8 or 10, in this order, as the seal would be.
 pub fn rounds(scheme: u32, header: usize, body: usize) -> Rounds {
     match count(scheme, header, body) {
         Ok(rounds) => Rounds {

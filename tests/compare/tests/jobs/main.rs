@@ -1,5 +1,5 @@
 //! The desk's program of the second program, against document 01, with the
-//! refusals of C-11, and against its own seal and open.
+//! refusals of C-11 and C-14, and against its own seal and open.
 
 use compare::jobs::{jobs, line};
 use compare::random::Random;
@@ -8,7 +8,7 @@ use compare::sealing::seal;
 
 mod program;
 
-const SCHEMES: [u8; 3] = [1, 2, 3];
+const SCHEMES: [u8; 7] = [1, 2, 3, 4, 5, 6, 7];
 const DIRECTIONS: [u8; 2] = [SEAL, OPEN];
 const SEAL: u8 = 0;
 const OPEN: u8 = 1;
@@ -150,7 +150,7 @@ fn an_empty_body_is_sealed_to_a_block_and_opened_to_a_dash() {
 fn unknown_schemes_are_1() {
     for_all(|scheme, direction| {
         let mut parts = Parts::good(scheme, direction);
-        for unknown in [0, 4, 5, 128, 255] {
+        for unknown in [0, 8, 9, 128, 255] {
             parts.scheme = unknown;
             assert_eq!(parts.line(), "1 0 -\n");
         }
@@ -214,6 +214,27 @@ fn a_changed_bit_of_any_section_is_6() {
     }
 }
 
+/// A run of one block is 10 whatever it holds, and a shorter one is 4.
+#[test]
+fn nothing_under_nothing_is_10_from_scheme_4_on() {
+    for scheme in 4..=7 {
+        let mut parts = Parts::sealing(scheme, b"abc");
+        parts.header.clear();
+        assert_eq!(parts.line()[..2], *"0 ");
+        parts.body.clear();
+        assert_eq!(parts.line(), "10 0 -\n");
+
+        let mut parts = Parts::opening(scheme, &[]);
+        assert_eq!(parts.line(), "0 0 -\n");
+        parts.header.clear();
+        assert_eq!(parts.line(), "10 0 -\n");
+        parts.body[0] ^= 1;
+        assert_eq!(parts.line(), "10 0 -\n");
+        parts.body.pop();
+        assert_eq!(parts.line(), "4 0 -\n");
+    }
+}
+
 /// At every place, so that no byte at all and one byte are among them.
 #[test]
 fn jobs_cut_short_are_9() {
@@ -240,7 +261,7 @@ fn bytes_left_over_are_9() {
 #[test]
 fn other_directions_are_9_under_every_scheme() {
     let mut parts = Parts::good(1, SEAL);
-    for scheme in [0, 1, 2, 3, 4, 255] {
+    for scheme in SCHEMES.into_iter().chain([0, 8, 255]) {
         parts.scheme = scheme;
         for direction in 2..=255 {
             parts.direction = direction;
@@ -254,7 +275,7 @@ fn other_directions_are_9_under_every_scheme() {
 fn what_is_malformed_is_9_before_all_else() {
     for direction in DIRECTIONS {
         let mut parts = Parts::good(1, direction);
-        parts.scheme = 4;
+        parts.scheme = 8;
         parts.key.clear();
         let mut job = parts.job();
         assert_eq!(line(&job), "1 0 -\n");

@@ -19,7 +19,8 @@ fn every_changed_bit_of_a_run_is_refused() {
     for scheme in SCHEMES {
         for length in lengths(size_of(scheme)) {
             let case = Case::random(&mut random, scheme, length);
-            for body_length in lengths(size_of(scheme)) {
+            let bodies = lengths(size_of(scheme)).into_iter();
+            for body_length in bodies.filter(|length| case.takes(*length)) {
                 let run = case.sealed(&random.bytes(body_length));
                 for bit in 0..8 * run.len() {
                     let mut damaged = run.clone();

@@ -1,11 +1,14 @@
-//! Document 01's small facts P9 to P12, and its table of schemes.
+//! Document 01's small facts P9 to P12, its table of schemes with those of C-14,
+//! and the ends of their tweaks.
 
-use crate::{row_of, size_of, Case, SCHEMES};
+use crate::{row_of, size_of, Case, LIMITS, SCHEMES};
 use compare::blocks::{is_padding, pad10, split_last, split_sealed};
+use compare::eevee::{self, body_tweak, header_tweak};
 use compare::paef::{self, make_tweak};
 use compare::random::Random;
 use compare::saef::{self, Tweaks};
-use compare::schemes::{Mode, Scheme};
+use compare::schemes::{numbers, Mode, Scheme};
+use std::collections::BTreeSet;
 
 #[test]
 fn p9_paef_flag_101_number_2() {
@@ -25,6 +28,37 @@ fn paef_numbers_have_thirteen_bits() {
     assert_eq!(end(paef::BODY, 8190), [0x9f, 0xfe]);
     assert_eq!(end(paef::last_body_flag(true), 8191), [0xbf, 0xff]);
     assert_eq!(end(paef::last_body_flag(false), 8191), [0xff, 0xff]);
+}
+
+/// Fourteen bits and 00, or fifteen and 1.
+#[test]
+fn eevee_numbers_have_fourteen_and_fifteen_bits() {
+    let header = |number| header_tweak(&[7; 14], number)[14..].to_vec();
+    assert_eq!(header(5), [0x00, 0x14]);
+    assert_eq!(header(16_383), [0xff, 0xfc]);
+    let last = |full, body_is_empty| header(eevee::last_header_number(full, body_is_empty));
+    assert_eq!([last(false, false), last(false, true)], [[0, 0], [0, 4]]);
+    assert_eq!([last(true, false), last(true, true)], [[0, 8], [0, 12]]);
+    let body = |number| body_tweak(&[7; 6], number)[6..8].to_vec();
+    assert_eq!(body(2), [0x00, 0x05]);
+    assert_eq!(body(32_767), [0xff, 0xff]);
+    let last = |full| body(eevee::last_body_number(full));
+    assert_eq!([last(false), last(true)], [[0, 1], [0, 3]]);
+}
+
+/// Of the longest header, 16,380 blocks, over the longest body, 32,767, each with
+/// a short and with a full last block.
+#[test]
+fn no_two_blocks_of_a_record_have_one_tweak() {
+    let last_headers = [false, true].map(|full| eevee::last_header_number(full, false));
+    let last_bodies = [false, true].map(eevee::last_body_number);
+    let headers = last_headers.into_iter().chain(5..5 + 16_379);
+    let bodies = last_bodies.into_iter().chain(2..2 + 32_766);
+    let mut seen: BTreeSet<_> = headers
+        .map(|number| header_tweak(&[7; 6], number))
+        .collect();
+    seen.extend(bodies.map(|number| body_tweak(&[7; 6], number)));
+    assert_eq!(seen.len(), 2 + 16_379 + 2 + 32_766);
 }
 
 #[test]
@@ -72,7 +106,7 @@ fn the_two_headers_of_p12_are_kept_apart() {
     }
 }
 
-/// And the limits are document 01's under PAEF, and C-12's under SAEF.
+/// And the limits are those of document 01, C-12 and C-14.
 #[test]
 fn schemes_are_those_of_the_table() {
     let row = |cipher, mode, block_bytes, nonce_bytes| Scheme {
@@ -84,10 +118,18 @@ fn schemes_are_those_of_the_table() {
     assert_eq!(*row_of(1), row(1, Mode::Paef, 8, 6));
     assert_eq!(*row_of(2), row(2, Mode::Paef, 16, 14));
     assert_eq!(*row_of(3), row(2, Mode::Saef, 16, 15));
-    assert_eq!(
-        SCHEMES.map(|number| row_of(number).most_bytes()),
-        [65_528, 131_056, 1_048_576]
-    );
+    assert_eq!(*row_of(4), row(1, Mode::Umbreon, 8, 6));
+    assert_eq!(*row_of(5), row(1, Mode::Jolteon, 8, 6));
+    assert_eq!(*row_of(6), row(2, Mode::Umbreon, 16, 14));
+    assert_eq!(*row_of(7), row(2, Mode::Jolteon, 16, 14));
+    assert_eq!(numbers().collect::<Vec<_>>(), SCHEMES);
+    for (scheme, header, body) in LIMITS {
+        let row = row_of(scheme);
+        assert_eq!(
+            (row.most_header_bytes(), row.most_body_bytes()),
+            (header, body)
+        );
+    }
 }
 
 /// 001, section 2: a multiple of the block ends in a full block, and a sealed

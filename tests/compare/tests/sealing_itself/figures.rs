@@ -1,5 +1,6 @@
 //! Runs put together block by block, with the ends of the tweaks written out
-//! from document 01 and the blocks already padded.
+//! from document 01 and the blocks already padded: 001, figures 5 and 8. What is
+//! needed of this for 000, figure 9, is public.
 
 use crate::{row_of, size_of, Case};
 use compare::blocks::{load_block, xor, Block};
@@ -7,7 +8,7 @@ use compare::calls::{fork, Fork};
 use compare::random::Random;
 
 /// One block call: the last bytes of its tweak, and its padded block.
-type Step = (Vec<u8>, Vec<u8>);
+pub type Step = (Vec<u8>, Vec<u8>);
 
 fn padded(part: &[u8], size: usize) -> Vec<u8> {
     let mut block = part.to_vec();
@@ -16,7 +17,8 @@ fn padded(part: &[u8], size: usize) -> Vec<u8> {
     block
 }
 
-fn call(case: &Case, front: &[u8], end: &[u8], block: &Block) -> Fork {
+/// Both halves of a block, under a tweak with this front and this end.
+pub fn call(case: &Case, front: &[u8], end: &[u8], block: &Block) -> Fork {
     let tweak = load_block(&[front, end].concat());
     let key = load_block(&case.key);
     fork(row_of(case.scheme).cipher, &key, &tweak, block, 2)
@@ -80,13 +82,15 @@ fn steps(run: &[u8], size: usize, ends: &[&[u8]]) -> Vec<Step> {
     ends.iter().map(|end| end.to_vec()).zip(blocks).collect()
 }
 
-/// Lengths of header and body with the ends of all tweaks, and of the tag.
+/// Lengths of header and body with the ends of all tweaks, and of the body's last
+/// block.
 type Example<'a> = (usize, &'a [&'a [u8]], usize, &'a [&'a [u8]], usize);
 
-fn check(
+/// What is sealed is what is put together.
+pub fn check(
     scheme: u32,
     run_of: fn(&Case, &[Step], &[Step], usize) -> Vec<u8>,
-    (header_length, header_ends, body_length, body_ends, tag): Example,
+    (header_length, header_ends, body_length, body_ends, last): Example,
 ) {
     let size = size_of(scheme);
     let case = Case::random(&mut Random::new(32), scheme, header_length);
@@ -95,7 +99,7 @@ fn check(
     let body_steps = steps(&body, size, body_ends);
     assert_eq!(
         case.sealed(&body),
-        run_of(&case, &header_steps, &body_steps, tag)
+        run_of(&case, &header_steps, &body_steps, last)
     );
 }
 

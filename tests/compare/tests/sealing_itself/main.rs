@@ -1,24 +1,37 @@
 //! Seal, open and view of the second program, against themselves and against
-//! documents 01 and 001; their rounds, against C-13; and prepared keys, those of
-//! the block calls too, against C-16.
+//! documents 01, 000 and 001; their rounds, against C-13; and prepared keys, those
+//! of the block calls too, against C-16.
 
 mod damage;
 mod facts;
+mod figure_9;
 mod figures;
 mod prepared;
 mod refusals;
 mod round_trips;
 mod rounds;
+mod siblings;
 
 use compare::random::Random;
-use compare::schemes::Scheme;
+use compare::schemes::{Mode, Scheme};
 use compare::sealing::{open, seal, Answer, DONE};
 
-const SCHEMES: [u32; 3] = [1, 2, 3];
+const SCHEMES: [u32; 7] = [1, 2, 3, 4, 5, 6, 7];
 
-/// The longest header, and the longest body, of each scheme (document 01; C-12
-/// for scheme 3).
-const LIMITS: [(u32, usize); 3] = [(1, 65_528), (2, 131_056), (3, 1_048_576)];
+/// Those of C-14: Umbreon and Jolteon over one cipher, and over the other.
+const SIBLINGS: [[u32; 2]; 2] = [[4, 5], [6, 7]];
+
+/// The longest header and the longest body of each scheme (document 01; C-12 for
+/// scheme 3, C-14 from 4 on).
+const LIMITS: [(u32, usize, usize); 7] = [
+    (1, 65_528, 65_528),
+    (2, 131_056, 131_056),
+    (3, 1_048_576, 1_048_576),
+    (4, 131_040, 262_136),
+    (5, 131_040, 262_136),
+    (6, 262_080, 524_272),
+    (7, 262_080, 524_272),
+];
 
 /// Bytes of room behind the longest output, to see that they stay.
 const SPARE: usize = 5;
@@ -41,13 +54,17 @@ fn size_of(scheme: u32) -> usize {
 }
 
 /// C-13's formula of the lengths alone: the header's blocks give one half each
-/// and the body's both. Where both are empty, one block is worked.
+/// and the body's both, but for Jolteon's before the last. Where PAEF or SAEF
+/// seals nothing, one block is worked.
 fn rounds_of(scheme: u32, header_length: usize, body_length: usize) -> u32 {
-    let (one_half, both) = if scheme == 1 { (40, 63) } else { (48, 75) };
-    let blocks_of = |length: usize| ((length + size_of(scheme) - 1) / size_of(scheme)) as u32;
-    match (blocks_of(header_length), blocks_of(body_length)) {
-        (0, 0) => one_half,
-        (header, body) => header * one_half + body * both,
+    let row = row_of(scheme);
+    let (one_half, both) = if row.cipher == 1 { (40, 63) } else { (48, 75) };
+    let blocks_of = |length: usize| ((length + row.block_bytes - 1) / row.block_bytes) as u32;
+    let (header, body) = (blocks_of(header_length), blocks_of(body_length));
+    match row.mode {
+        Mode::Paef | Mode::Saef if header + body == 0 => one_half,
+        Mode::Jolteon if body > 0 => (header + body - 1) * one_half + both,
+        _ => header * one_half + body * both,
     }
 }
 
@@ -96,6 +113,12 @@ impl Case {
 
     fn open_into(&self, run: &[u8], room: &mut [u8]) -> Answer {
         open(self.scheme, &self.key, &self.nonce, &self.header, run, room)
+    }
+
+    /// Whether a body of this length is sealed under the header: from scheme 4
+    /// on not where both are empty.
+    fn takes(&self, body_length: usize) -> bool {
+        self.scheme < 4 || self.header.len() + body_length > 0
     }
 
     /// By the formula.

@@ -74,7 +74,7 @@ fn a_key_that_is_not_admitted_is_2() {
         case.nonce.pop();
         for key in [other, Prepared::Refused] {
             let mut due = WRONG_KEY_LENGTH;
-            for scheme in [scheme, 4] {
+            for scheme in [scheme, 8] {
                 let case = Case {
                     scheme,
                     ..case.clone()

@@ -1,11 +1,11 @@
-//! Document 01's table of answers with the refusals of C-11, row by row, and
-//! the view call.
+//! Document 01's table of answers with the refusals of C-11 and C-14, row by
+//! row, and the view call.
 
 use crate::{refused, row_of, size_of, unused_room, Case, LIMITS, SCHEMES};
 use compare::random::Random;
 use compare::sealing::{
-    view, Answer, BODY_TOO_LONG, DONE, HEADER_TOO_LONG, NOT_AUTHENTIC, NO_BLOCK, SHORT_ROOM,
-    UNKNOWN_SCHEME, WRONG_KEY_LENGTH, WRONG_NONCE_LENGTH,
+    view, Answer, BODY_TOO_LONG, DONE, HEADER_TOO_LONG, NOTHING, NOT_AUTHENTIC, NO_BLOCK,
+    SHORT_ROOM, UNKNOWN_SCHEME, WRONG_KEY_LENGTH, WRONG_NONCE_LENGTH,
 };
 
 /// Refused with this number by both directions, and the room as it was. The
@@ -23,10 +23,10 @@ fn good_case(scheme: u32) -> Case {
     Case::random(&mut Random::new(61), scheme, 20)
 }
 
-/// A body, and a run, one byte above the limit.
-fn longer_texts(scheme: u32, longest: usize) -> (Vec<u8>, Vec<u8>) {
-    let body = vec![5; longest + 1];
-    let run = vec![6; longest + size_of(scheme) + 1];
+/// A body, and a run, one byte above the limit of the body.
+fn longer_texts(scheme: u32, limit: usize) -> (Vec<u8>, Vec<u8>) {
+    let body = vec![5; limit + 1];
+    let run = vec![6; limit + size_of(scheme) + 1];
     (body, run)
 }
 
@@ -36,11 +36,12 @@ fn the_numbers_are_those_of_the_table() {
     assert_eq!((WRONG_KEY_LENGTH, WRONG_NONCE_LENGTH), (2, 7));
     assert_eq!((HEADER_TOO_LONG, BODY_TOO_LONG), (3, 8));
     assert_eq!((NO_BLOCK, SHORT_ROOM, NOT_AUTHENTIC), (4, 5, 6));
+    assert_eq!(NOTHING, 10);
 }
 
 #[test]
 fn unknown_schemes_are_1() {
-    for scheme in [0, 4, 5, 256, u32::MAX] {
+    for scheme in [0, 8, 9, 256, u32::MAX] {
         let case = Case {
             scheme,
             ..good_case(2)
@@ -86,11 +87,11 @@ fn a_key_and_a_nonce_of_wrong_lengths_are_2() {
 
 #[test]
 fn a_header_one_byte_above_the_limit_is_3() {
-    for (scheme, longest) in LIMITS {
-        let case = good_case(scheme).under(&vec![5; longest + 1]);
+    for (scheme, header, body) in LIMITS {
+        let case = good_case(scheme).under(&vec![5; header + 1]);
         assert_refused(&case, &[1; 40], &[2; 40], HEADER_TOO_LONG);
         // A body that is too long, or a run that is too short, comes later.
-        let (body, run) = longer_texts(scheme, longest);
+        let (body, run) = longer_texts(scheme, body);
         assert_refused(&case, &body, &run, HEADER_TOO_LONG);
         assert_refused(&case, &[], &[], HEADER_TOO_LONG);
     }
@@ -98,9 +99,9 @@ fn a_header_one_byte_above_the_limit_is_3() {
 
 #[test]
 fn a_body_one_byte_above_the_limit_is_8() {
-    for (scheme, longest) in LIMITS {
+    for (scheme, _, body) in LIMITS {
         let case = good_case(scheme);
-        let (body, run) = longer_texts(scheme, longest);
+        let (body, run) = longer_texts(scheme, body);
         assert_refused(&case, &body, &run, BODY_TOO_LONG);
         case.assert_not_authentic(&run[1..]);
     }
@@ -151,6 +152,32 @@ fn rooms_one_byte_short_are_5_and_exact_ones_enough() {
     }
 }
 
+/// Whatever the block of the run holds. A room without a byte is enough for an
+/// open, and a room too short for the block of a seal is told before.
+#[test]
+fn an_empty_header_over_an_empty_body_is_10_from_scheme_4_on() {
+    for scheme in [4, 5, 6, 7] {
+        let case = good_case(scheme).under(&[]);
+        let size = size_of(scheme);
+        for run in [
+            vec![0; size],
+            vec![0x80; size],
+            case.sealed(&[1])[1..].to_vec(),
+        ] {
+            assert_refused(&case, &[], &run, NOTHING);
+            assert_eq!(case.open_into(&run, &mut []), refused(NOTHING));
+            assert_eq!(case.open_into(&run[1..], &mut []), refused(NO_BLOCK));
+        }
+        let mut short = unused_room(size - 1);
+        assert_eq!(case.seal_into(&[], &mut short), refused(SHORT_ROOM));
+        assert_eq!(short, unused_room(size - 1));
+        // Neither is refused where the other has a byte.
+        assert_eq!(case.opened(&case.sealed(&[1])), (DONE, vec![1]));
+        let under_one = case.under(&[1]);
+        assert_eq!(under_one.opened(&under_one.sealed(&[])), (DONE, vec![]));
+    }
+}
+
 /// As many zeros as a body would have taken, none for an empty one.
 #[test]
 fn a_run_that_is_not_authentic_is_6_and_leaves_zeros() {
@@ -176,11 +203,12 @@ fn a_run_that_is_not_authentic_is_6_and_leaves_zeros() {
 /// the table first.
 #[test]
 fn the_first_that_applies_answers() {
-    for (scheme, longest) in LIMITS {
+    for (scheme, _, longest) in LIMITS {
         let good = good_case(scheme);
+        // A body is never the shorter of the two.
         let too_long = vec![1; longest + size_of(scheme) + 1];
         let mut case = Case {
-            scheme: 4,
+            scheme: 8,
             key: vec![1; 15],
             nonce: vec![1; 16],
             header: too_long.clone(),
@@ -217,7 +245,7 @@ fn view_is_the_front_part_after_0_alone() {
     for length in [11, 12, usize::MAX] {
         assert!(view(DONE, length, &room).is_empty());
     }
-    for number in (1..=9).chain([u32::MAX]) {
+    for number in (1..=10).chain([u32::MAX]) {
         assert!(view(number, 4, &room).is_empty());
         assert!(view(number, 10, &room).is_empty());
     }

@@ -12,7 +12,7 @@ fn every_pair_of_short_lengths_goes_round() {
         let longest = 3 * size_of(scheme) + 1;
         for header_length in 0..=longest {
             let case = Case::random(&mut random, scheme, header_length);
-            for body_length in 0..=longest {
+            for body_length in (0..=longest).filter(|length| case.takes(*length)) {
                 let body = random.bytes(body_length);
                 assert_eq!(case.opened(&case.sealed(&body)), (0, body));
                 trips += 1;
@@ -37,9 +37,9 @@ fn longer_lengths_go_round() {
 #[test]
 fn the_longest_header_and_body_go_round() {
     let mut random = Random::new(43);
-    for (scheme, longest) in LIMITS {
-        let case = Case::random(&mut random, scheme, longest);
-        let body = random.bytes(longest);
+    for (scheme, header, body) in LIMITS {
+        let case = Case::random(&mut random, scheme, header);
+        let body = random.bytes(body);
         assert_eq!(case.opened(&case.sealed(&body)), (0, body));
     }
 }
@@ -47,7 +47,7 @@ fn the_longest_header_and_body_go_round() {
 #[test]
 fn nothing_sealed_is_one_block_bound_to_everything() {
     let mut random = Random::new(44);
-    for scheme in SCHEMES {
+    for scheme in [1, 2, 3] {
         let case = Case::random(&mut random, scheme, 0);
         let run = case.sealed(&[]);
         assert_eq!(run.len(), size_of(scheme));
