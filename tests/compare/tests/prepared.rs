@@ -13,7 +13,7 @@ type Block = [u8; 16];
 
 const CIPHERS: [u32; 2] = [1, 2];
 /// Each with its cipher.
-const SCHEMES: [(u32, u32); 3] = [(1, 1), (2, 2), (3, 2)];
+const SCHEMES: [(u32, u32); 7] = [(1, 1), (2, 2), (3, 2), (4, 1), (5, 1), (6, 2), (7, 2)];
 
 /// A bit at either end of a byte, and all of it.
 const FLIPS: [u8; 3] = [0x01, 0x80, 0xff];
@@ -220,7 +220,7 @@ fn numbers_are_judged_first() {
                 work.expect_unfork(unknown, &key, 1, 2, REFUSED);
             }
             for call in work.seals.iter().chain(&work.opens) {
-                for scheme in [0, 4, 258, u32::MAX] {
+                for scheme in [0, 8, 258, u32::MAX] {
                     expect_sealing(&call.with(|call| call.scheme = scheme), &key, REFUSED);
                 }
             }
@@ -231,11 +231,16 @@ fn numbers_are_judged_first() {
 /// Every length that is wrong is told after it.
 #[test]
 fn lengths_are_judged_later() {
-    let changes: [fn(&mut Call); 4] = [
+    let changes: [fn(&mut Call); 5] = [
         |call| call.nonce.push(0),
-        |call| call.header = vec![1; row_of(call.scheme).most_bytes() + 1],
-        |call| call.text = vec![1; row_of(call.scheme).most_bytes() + 17],
+        |call| call.header = vec![1; row_of(call.scheme).most_header_bytes() + 1],
+        |call| call.text = vec![1; row_of(call.scheme).most_body_bytes() + 17],
         |call| call.room = 0,
+        |call| {
+            let block = row_of(call.scheme).block_bytes;
+            call.text.truncate(call.direction.of([0, block]));
+            call.header.clear();
+        },
     ];
     for_ciphers(166, |_, work, _| {
         let key = Both::of_no_key([0; PREPARED_BYTES]);

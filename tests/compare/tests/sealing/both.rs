@@ -2,8 +2,9 @@
 //! by the second program, and compared.
 
 use compare::records::{row_of, Call, Direction};
-use compare::sealing::{Answer, Rounds, DONE, NOT_AUTHENTIC, NUMBERS};
+use compare::sealing::{Answer, Rounds, DONE, NOT_AUTHENTIC};
 use compare::{auraski, meter, prepared, sealing};
+use std::collections::BTreeMap;
 
 /// Bytes behind the room that are not lent and must stay.
 const GUARD: usize = 16;
@@ -18,12 +19,12 @@ pub struct Outcome {
 /// How many calls were compared, by direction and answer number.
 #[derive(Default)]
 pub struct Tally {
-    seals: [usize; NUMBERS],
-    opens: [usize; NUMBERS],
+    seals: BTreeMap<u32, usize>,
+    opens: BTreeMap<u32, usize>,
 }
 
-/// What document 01's table, with C-11, says of the room, all but the output
-/// itself.
+/// What document 01's table, with C-11 and C-14, says of the room, all but the
+/// output itself.
 fn fits_the_table(call: &Call, answer: Answer, before: &[u8], after: &[u8]) -> bool {
     let written = match answer.number {
         DONE => answer.length,
@@ -124,23 +125,21 @@ impl Tally {
     }
 
     fn count(&mut self, direction: Direction, number: u32) {
-        match direction {
-            Direction::Seal => self.seals[number as usize] += 1,
-            Direction::Open => self.opens[number as usize] += 1,
-        }
+        let counts = direction.of([&mut self.seals, &mut self.opens]);
+        *counts.entry(number).or_insert(0) += 1;
     }
 
     pub fn seals(&self) -> usize {
-        self.seals.iter().sum()
+        self.seals.values().sum()
     }
 
     pub fn opens(&self) -> usize {
-        self.opens.iter().sum()
+        self.opens.values().sum()
     }
 
     pub fn print(&self, what: &str) {
         println!(
-            "{}: {} seals and {} opens agree; by number from 0, {:?} and {:?}",
+            "{}: {} seals and {} opens agree; by number, {:?} and {:?}",
             what,
             self.seals(),
             self.opens(),

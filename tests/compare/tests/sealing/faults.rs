@@ -1,13 +1,13 @@
 //! Every fault by itself and every two at once: which one answers (document
-//! 01, "Checks run in this order", with the refusals of C-11).
+//! 01, "Checks run in this order", with the refusals of C-11 and C-14).
 
 use crate::both::Tally;
-use crate::SCHEMES;
+use crate::{takes, SCHEMES};
 use compare::random::Random;
 use compare::records::{row_of, Call, Direction, SPARE};
 use compare::schemes::Scheme;
 use compare::sealing::{
-    first_of, BODY_TOO_LONG, DONE, HEADER_TOO_LONG, NOT_AUTHENTIC, NO_BLOCK, SHORT_ROOM,
+    first_of, BODY_TOO_LONG, DONE, HEADER_TOO_LONG, NOTHING, NOT_AUTHENTIC, NO_BLOCK, SHORT_ROOM,
     UNKNOWN_SCHEME, WRONG_KEY_LENGTH, WRONG_NONCE_LENGTH,
 };
 
@@ -24,6 +24,8 @@ enum Fault {
     ShortRun(usize),
     /// A room so many bytes too short, or empty if that is not enough.
     Room(usize),
+    /// No byte of header and none of body.
+    Nothing,
     Damage,
 }
 
@@ -37,22 +39,33 @@ impl Fault {
             Fault::LongText => BODY_TOO_LONG,
             Fault::ShortRun(_) => NO_BLOCK,
             Fault::Room(_) => SHORT_ROOM,
+            Fault::Nothing => NOTHING,
             Fault::Damage => NOT_AUTHENTIC,
         }
     }
 
-    /// Which argument it changes; two faults of one argument exclude each
+    /// Which arguments it changes; two faults of one argument exclude each
     /// other. Damage to a run goes with every other fault.
-    fn argument(self) -> u32 {
+    fn arguments(self) -> &'static [u32] {
         match self {
-            Fault::Scheme(_) => 0,
-            Fault::Key(_) => 1,
-            Fault::Nonce(_) => 2,
-            Fault::LongHeader => 3,
-            Fault::LongText | Fault::ShortRun(_) => 4,
-            Fault::Room(_) => 5,
-            Fault::Damage => 6,
+            Fault::Scheme(_) => &[0],
+            Fault::Key(_) => &[1],
+            Fault::Nonce(_) => &[2],
+            Fault::LongHeader => &[3],
+            Fault::LongText | Fault::ShortRun(_) => &[4],
+            Fault::Room(_) => &[5],
+            Fault::Nothing => &[3, 4],
+            Fault::Damage => &[6],
         }
+    }
+
+    /// An open of nothing has room enough in every room.
+    fn can_meet(self, other: Fault, direction: Direction) -> bool {
+        let room = |fault| matches!(fault, Fault::Room(_));
+        let nothing = self == Fault::Nothing || other == Fault::Nothing;
+        let enough = direction == Direction::Open && nothing && (room(self) || room(other));
+        let arguments = self.arguments();
+        !enough && !other.arguments().iter().any(|one| arguments.contains(one))
     }
 
     /// Puts the fault in; a room is seen to by `faulty`.
@@ -61,31 +74,41 @@ impl Fault {
             Fault::Scheme(number) => call.scheme = number,
             Fault::Key(length) => call.key.resize(length, 1),
             Fault::Nonce(length) => call.nonce.resize(length, 1),
-            Fault::LongHeader => call.header.resize(row.most_bytes() + 1, 1),
+            Fault::LongHeader => call.header.resize(row.most_header_bytes() + 1, 1),
             Fault::LongText => call.text.resize(longest_text(call, row) + 1, 1),
             Fault::ShortRun(length) => call.text.truncate(length),
             Fault::Room(_) => (),
+            Fault::Nothing => {
+                call.header.clear();
+                call.text.truncate(shortest_text(call, row));
+            }
             Fault::Damage => call.text[0] ^= 1,
         }
     }
 }
 
+/// That of an empty body.
+fn shortest_text(call: &Call, row: &Scheme) -> usize {
+    call.direction.of([0, row.block_bytes])
+}
+
 fn longest_text(call: &Call, row: &Scheme) -> usize {
-    match call.direction {
-        Direction::Seal => row.most_bytes(),
-        Direction::Open => row.most_bytes() + row.block_bytes,
-    }
+    shortest_text(call, row) + row.most_body_bytes()
 }
 
 /// Damage comes first: once a run is too short there is nothing to damage.
-fn every_fault(row: &Scheme, direction: Direction) -> Vec<Fault> {
+fn every_fault(scheme: u32, direction: Direction) -> Vec<Fault> {
+    let row = row_of(scheme);
     let mut faults = Vec::new();
     if direction == Direction::Open {
         faults.push(Fault::Damage);
         faults.extend([0, 1, row.block_bytes - 1].map(Fault::ShortRun));
     }
     faults.extend([Fault::LongHeader, Fault::LongText]);
-    faults.extend([0, 4, u32::MAX].map(Fault::Scheme));
+    if !takes(scheme, 0, 0) {
+        faults.push(Fault::Nothing);
+    }
+    faults.extend([0, 8, u32::MAX].map(Fault::Scheme));
     faults.extend([0, 15, 17].map(Fault::Key));
     faults.extend([row.nonce_bytes - 1, row.nonce_bytes + 1].map(Fault::Nonce));
     faults.extend([1, usize::MAX].map(Fault::Room));
@@ -117,11 +140,11 @@ fn compare_faults(tally: &mut Tally, good: &Call, faults: &[Fault]) {
 
 fn compare_pairs(tally: &mut Tally, good: &Call) {
     tally.expect(good, DONE);
-    let faults = every_fault(row_of(good.scheme), good.direction);
+    let faults = every_fault(good.scheme, good.direction);
     for (place, first) in faults.iter().enumerate() {
         compare_faults(tally, good, &[*first]);
         for second in &faults[place + 1..] {
-            if first.argument() != second.argument() {
+            if first.can_meet(*second, good.direction) {
                 compare_faults(tally, good, &[*first, *second]);
             }
         }

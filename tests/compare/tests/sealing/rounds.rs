@@ -2,10 +2,11 @@
 //! counts when it seals so many zeros. That they are those of every seal and
 //! open is seen to in `both`.
 
-use crate::limits::{Limit, PAEF, SAEF};
+use crate::limits::{every_limit, Limit, EEVEE, PAEF, SAEF};
+use crate::{takes, SCHEMES};
 use compare::random::Random;
 use compare::schemes::Scheme;
-use compare::sealing::{BODY_TOO_LONG, DONE, HEADER_TOO_LONG, UNKNOWN_SCHEME};
+use compare::sealing::{BODY_TOO_LONG, DONE, HEADER_TOO_LONG, NOTHING, UNKNOWN_SCHEME};
 use compare::{auraski, sealing};
 
 /// Lengths far beyond every limit. Where a length is too narrow, a good one is
@@ -33,13 +34,16 @@ fn expect(scheme: u32, header: usize, body: usize, number: u32) {
 /// those with the longer block.
 #[test]
 fn every_pair_of_short_lengths_agrees() {
-    for scheme in 0..=5 {
-        let (block, number) = match Scheme::find(scheme) {
-            Some(row) => (row.block_bytes, DONE),
-            None => (16, UNKNOWN_SCHEME),
-        };
+    for scheme in 0..=9 {
+        let row = Scheme::find(scheme);
+        let block = row.map_or(16, |row| row.block_bytes);
         for header in 0..=3 * block + 1 {
             for body in 0..=3 * block + 1 {
+                let number = match row {
+                    None => UNKNOWN_SCHEME,
+                    Some(_) if takes(scheme, header, body) => DONE,
+                    Some(_) => NOTHING,
+                };
                 expect(scheme, header, body, number);
             }
         }
@@ -47,52 +51,53 @@ fn every_pair_of_short_lengths_agrees() {
 }
 
 /// One byte more than the limit, of either and of both.
-fn compare_longer((scheme, limit): Limit) {
-    let longer = limit + 1;
-    for body in [0, limit, longer] {
-        expect(scheme, longer, body, HEADER_TOO_LONG);
+fn compare_longer(limit: Limit) {
+    for body in [0, limit.body, limit.body + 1] {
+        expect(limit.scheme, limit.header + 1, body, HEADER_TOO_LONG);
     }
-    for header in [0, limit] {
-        expect(scheme, header, longer, BODY_TOO_LONG);
+    for header in [0, limit.header] {
+        expect(limit.scheme, header, limit.body + 1, BODY_TOO_LONG);
     }
 }
 
 #[test]
 fn both_sides_of_paef_s_limits_agree() {
-    for (scheme, limit) in PAEF {
-        for (header, body) in [
-            (limit, 0),
-            (0, limit),
-            (limit, limit),
-            (limit - 1, 1),
-            (1, limit - 1),
+    for limit in PAEF {
+        let Limit { header, body, .. } = limit;
+        for [header, body] in [
+            [header, 0],
+            [0, body],
+            [header, body],
+            [header - 1, 1],
+            [1, body - 1],
         ] {
-            expect(scheme, header, body, DONE);
+            expect(limit.scheme, header, body, DONE);
         }
-        compare_longer((scheme, limit));
+        compare_longer(limit);
     }
 }
 
 /// One alone is counted here, which takes long; the others come with the long
 /// records of `limits` and `long`.
 #[test]
-fn both_sides_of_saef_s_limits_agree() {
-    let (scheme, limit) = SAEF;
-    expect(scheme, limit - 1, limit, DONE);
-    compare_longer(SAEF);
+fn both_sides_of_the_other_limits_agree() {
+    for limit in EEVEE.into_iter().chain([SAEF]) {
+        expect(limit.scheme, limit.header - 1, limit.body, DONE);
+        compare_longer(limit);
+    }
 }
 
 #[test]
 fn huge_lengths_agree() {
-    for (scheme, limit) in PAEF.into_iter().chain([SAEF]) {
+    for limit in every_limit() {
         for huge in HUGE {
-            for body in [0, 1, limit, limit + 1, huge, usize::MAX] {
-                expect(scheme, huge, body, HEADER_TOO_LONG);
+            for body in [0, 1, limit.body, limit.body + 1, huge, usize::MAX] {
+                expect(limit.scheme, huge, body, HEADER_TOO_LONG);
             }
-            for header in [0, 1, limit] {
-                expect(scheme, header, huge, BODY_TOO_LONG);
+            for header in [0, 1, limit.header] {
+                expect(limit.scheme, header, huge, BODY_TOO_LONG);
             }
-            expect(scheme, limit + 1, huge, HEADER_TOO_LONG);
+            expect(limit.scheme, limit.header + 1, huge, HEADER_TOO_LONG);
         }
     }
 }
@@ -100,8 +105,8 @@ fn huge_lengths_agree() {
 /// The scheme is judged before any length.
 #[test]
 fn unknown_schemes_agree() {
-    let far = [256, 257, 0x0001_0001, 0x8000_0002, 0xffff_ff03, u32::MAX];
-    for scheme in [0, 4, 5].into_iter().chain(far) {
+    let far = [256, 257, 0x0001_0001, 0x8000_0002, 0xffff_ff07, u32::MAX];
+    for scheme in [0, 8, 9].into_iter().chain(far) {
         for length in [0, 1, 65_529].into_iter().chain(HUGE) {
             expect(scheme, length, 0, UNKNOWN_SCHEME);
             expect(scheme, 0, length, UNKNOWN_SCHEME);
@@ -114,9 +119,9 @@ fn unknown_schemes_agree() {
 #[test]
 fn random_lengths_agree() {
     let mut random = Random::new(141);
-    for scheme in 1..=3 {
+    for scheme in SCHEMES {
         for _ in 0..200 {
-            let [header, body] = [(); 2].map(|_| random.below(2_000));
+            let [header, body] = [(); 2].map(|_| 1 + random.below(2_000));
             expect(scheme, header, body, DONE);
         }
     }

@@ -8,7 +8,7 @@ use compare::calls::{fork, Fork};
 use compare::random::Random;
 
 /// One block call: the last bytes of its tweak, and its padded block.
-pub type Step = (Vec<u8>, Vec<u8>);
+pub(crate) type Step = (Vec<u8>, Vec<u8>);
 
 fn padded(part: &[u8], size: usize) -> Vec<u8> {
     let mut block = part.to_vec();
@@ -18,7 +18,7 @@ fn padded(part: &[u8], size: usize) -> Vec<u8> {
 }
 
 /// Both halves of a block, under a tweak with this front and this end.
-pub fn call(case: &Case, front: &[u8], end: &[u8], block: &Block) -> Fork {
+pub(crate) fn call(case: &Case, front: &[u8], end: &[u8], block: &Block) -> Fork {
     let tweak = load_block(&[front, end].concat());
     let key = load_block(&case.key);
     fork(row_of(case.scheme).cipher, &key, &tweak, block, 2)
@@ -87,7 +87,7 @@ fn steps(run: &[u8], size: usize, ends: &[&[u8]]) -> Vec<Step> {
 type Example<'a> = (usize, &'a [&'a [u8]], usize, &'a [&'a [u8]], usize);
 
 /// What is sealed is what is put together.
-pub fn check(
+pub(crate) fn check(
     scheme: u32,
     run_of: fn(&Case, &[Step], &[Step], usize) -> Vec<u8>,
     (header_length, header_ends, body_length, body_ends, last): Example,

@@ -6,24 +6,25 @@ use compare::blocks::pad10;
 use compare::forged::{forged_run, LastBlock};
 use compare::random::Random;
 use compare::records::{row_of, Call};
-use compare::schemes::Keyed;
+use compare::schemes::{numbers, Keyed, Mode, Scheme};
 use compare::sealing::{DONE, NOT_AUTHENTIC};
 
-/// What is done to the open of a good run; the block's size is told.
+/// What is done to the open of a good run; where the tag begins is told.
 type Change = fn(&mut Call, usize);
 
 const CHANGES: [(&str, Change); 12] = [
     ("The run's first bit.", |call, _| call.text[0] ^= 0x80),
-    ("A bit of the last whole block.", |call, block| {
-        call.text[2 * block - 1] ^= 1
+    ("The last bit before the tag.", |call, tag| {
+        call.text[tag - 1] ^= 1
     }),
-    ("The first bit of the tag.", |call, block| {
-        call.text[2 * block] ^= 0x80
+    ("The first bit of the tag.", |call, tag| {
+        call.text[tag] ^= 0x80
     }),
     ("The last bit of the tag.", |call, _| {
         *call.text.last_mut().unwrap() ^= 1
     }),
-    ("Two blocks changed over.", |call, block| {
+    ("Two blocks changed over.", |call, _| {
+        let block = row_of(call.scheme).block_bytes;
         call.text[..2 * block].rotate_left(block)
     }),
     ("The last byte cut off.", |call, _| {
@@ -43,23 +44,33 @@ const CHANGES: [(&str, Change); 12] = [
     }),
 ];
 
-/// A body of a whole block and five bytes, so that the tag has five.
+/// Bytes of the tag behind a body's last block of so many.
+fn tag_bytes(row: &Scheme, last: usize) -> usize {
+    match row.mode {
+        Mode::Paef | Mode::Saef => last,
+        Mode::Umbreon | Mode::Jolteon => row.block_bytes,
+    }
+}
+
+/// A body of a whole block and five bytes.
 fn write_changed(book: &mut Book, random: &mut Random, scheme: u32) {
-    let block = row_of(scheme).block_bytes;
-    let call = Call::drawn(random, scheme, block + 2, block + 5);
+    let row = row_of(scheme);
+    let call = Call::drawn(random, scheme, row.block_bytes + 2, row.block_bytes + 5);
     let run = book.sealing("A good run.", &call, DONE);
+    let tag = run.len() - tag_bytes(row, 5);
     for (about, change) in CHANGES {
-        let changed = call.opening(&run).with(|call| change(call, block));
+        let changed = call.opening(&run).with(|call| change(call, tag));
         book.sealing(about, &changed, NOT_AUTHENTIC);
     }
 }
 
-/// The shortest tag and the longest, each with its last bit changed.
+/// The shortest last block and the longest, each with the tag's last bit changed.
 fn write_tags(book: &mut Book, random: &mut Random, scheme: u32) {
-    let block = row_of(scheme).block_bytes;
-    for (about, body) in [("A tag of one byte.", 1), ("A tag of a block.", 2 * block)] {
+    let row = row_of(scheme);
+    for (body, last) in [(1, 1), (2 * row.block_bytes, row.block_bytes)] {
+        let about = format!("A tag's length is {}.", tag_bytes(row, last));
         let call = Call::drawn(random, scheme, 0, body);
-        let run = book.sealing(about, &call, DONE);
+        let run = book.sealing(&about, &call, DONE);
         let last = run.len() - 1;
         let changed = call.opening(&run).with(|call| call.text[last] ^= 1);
         book.sealing("Its last bit changed.", &changed, NOT_AUTHENTIC);
@@ -110,7 +121,7 @@ fn write_forged(book: &mut Book, random: &mut Random, scheme: u32) {
 
 pub fn write(book: &mut Book) {
     let mut random = Random::new(6);
-    for scheme in 1..=3 {
+    for scheme in numbers() {
         book.section(&format!("Scheme {}: opens with one thing changed", scheme));
         write_changed(book, &mut random, scheme);
         write_tags(book, &mut random, scheme);

@@ -8,10 +8,12 @@ mod book;
 mod damage;
 mod lengths;
 mod limits;
+mod nothing;
 mod prepared;
 mod refusals;
 mod rooms;
 mod rounds;
+mod siblings;
 mod side;
 mod value;
 
@@ -34,6 +36,8 @@ fn whole_text(side: &'static Side) -> String {
     let mut book = Book::new(side);
     blocks::write(&mut book);
     lengths::write(&mut book);
+    nothing::write(&mut book);
+    siblings::write(&mut book);
     accident::write(&mut book);
     rooms::write(&mut book);
     refusals::write(&mut book);

@@ -4,6 +4,7 @@ use crate::book::{BlockCall, Book};
 use compare::calls::{DONE, NOT_ADMITTED, REFUSED};
 use compare::random::Random;
 use compare::records::{row_of, Call};
+use compare::schemes::numbers;
 use compare::sealing::{NOT_AUTHENTIC, SHORT_ROOM, WRONG_NONCE_LENGTH};
 
 const CIPHERS: [u32; 2] = [1, 2];
@@ -40,7 +41,7 @@ fn write_not_admitted(book: &mut Book, call: &Call) {
     let about = "A key of 15 bytes.";
     book.sealing_prepared(about, &short, cipher, NOT_ADMITTED);
     let about = "The same, and no such scheme.";
-    let unknown = short.with(|call| call.scheme = 4);
+    let unknown = short.with(|call| call.scheme = 8);
     book.sealing_prepared(about, &unknown, cipher, REFUSED);
     let about = "The other cipher's, and a nonce a byte too long.";
     let longer = call.with(|call| call.nonce.push(0));
@@ -99,7 +100,7 @@ pub fn write(book: &mut Book) {
     let mut random = Random::new(8);
     book.section("Keys prepared");
     write_preparing(book, &mut random);
-    for scheme in 1..=3 {
+    for scheme in numbers() {
         book.section(&format!("Scheme {}: a prepared key", scheme));
         write_scheme(book, &mut random, scheme);
     }

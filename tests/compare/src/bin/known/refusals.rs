@@ -4,10 +4,10 @@
 use crate::book::Book;
 use compare::random::Random;
 use compare::records::{row_of, Call, Direction, SPARE};
-use compare::schemes::Scheme;
+use compare::schemes::{numbers, Scheme};
 use compare::sealing::{
-    first_of, BODY_TOO_LONG, HEADER_TOO_LONG, NOT_AUTHENTIC, NO_BLOCK, SHORT_ROOM, UNKNOWN_SCHEME,
-    WRONG_KEY_LENGTH, WRONG_NONCE_LENGTH,
+    first_of, BODY_TOO_LONG, HEADER_TOO_LONG, NOTHING, NOT_AUTHENTIC, NO_BLOCK, SHORT_ROOM,
+    UNKNOWN_SCHEME, WRONG_KEY_LENGTH, WRONG_NONCE_LENGTH,
 };
 
 const FILLING: u8 = 0x61;
@@ -35,7 +35,7 @@ macro_rules! fault {
 
 /// Those that are met with others; one of each number.
 const MET: [Fault; 6] = [
-    fault!(UNKNOWN_SCHEME, "no such scheme", |call, _| call.scheme = 4),
+    fault!(UNKNOWN_SCHEME, "no such scheme", |call, _| call.scheme = 8),
     fault!(WRONG_KEY_LENGTH, "key of 15 bytes", |call, _| {
         call.key.truncate(15)
     }),
@@ -43,17 +43,19 @@ const MET: [Fault; 6] = [
         call.nonce.push(0)
     }),
     fault!(HEADER_TOO_LONG, "header too long", |call, row| {
-        call.header = vec![FILLING; row.most_bytes() + 1]
+        call.header = vec![FILLING; row.most_header_bytes() + 1]
     }),
     fault!(BODY_TOO_LONG, "body too long", |call, row| {
-        let block = match call.direction {
-            Direction::Seal => 0,
-            Direction::Open => row.block_bytes,
-        };
-        call.text = vec![FILLING; row.most_bytes() + block + 1]
+        call.text = vec![FILLING; shortest_text(call, row) + row.most_body_bytes() + 1]
     }),
     fault!(SHORT_ROOM, "no room", |call, _| call.room = 0),
 ];
+
+/// A further one where an empty header over an empty body is not sealed.
+const EMPTY: Fault = fault!(NOTHING, "header and body empty", |call, row| {
+    call.text.truncate(shortest_text(call, row));
+    call.header.clear();
+});
 
 /// Further ones that only an open can have.
 const OPENS: [Fault; 2] = [
@@ -87,6 +89,11 @@ const ALONE: [Fault; 8] = [
     }),
 ];
 
+/// That of an empty body.
+fn shortest_text(call: &Call, row: &Scheme) -> usize {
+    call.direction.of([0, row.block_bytes])
+}
+
 /// The call with faults put in, and room for what it would give.
 fn faulty(good: &Call, faults: &[Fault]) -> Call {
     let row = row_of(good.scheme);
@@ -111,14 +118,24 @@ fn write_faults(book: &mut Book, good: &Call, faults: &[Fault]) {
     book.sealing(&about, &faulty(good, faults), first);
 }
 
-/// Two that change the same run exclude each other.
-fn can_meet(first: &Fault, second: &Fault) -> bool {
-    let on_run = |fault: &Fault| [BODY_TOO_LONG, NO_BLOCK, NOT_AUTHENTIC].contains(&fault.number);
-    !(on_run(first) && on_run(second))
+/// Two that change the same run exclude each other, and what is empty is not too
+/// long. An open of an empty body has room enough in every room.
+fn can_meet(first: &Fault, second: &Fault, direction: Direction) -> bool {
+    let apart = [
+        &[BODY_TOO_LONG, NO_BLOCK, NOT_AUTHENTIC][..],
+        &[BODY_TOO_LONG, NO_BLOCK, NOTHING],
+        &[HEADER_TOO_LONG, NOTHING],
+        direction.of([&[], &[SHORT_ROOM, NOTHING]]),
+    ];
+    let both = |group: &&[u32]| group.contains(&first.number) && group.contains(&second.number);
+    !apart.iter().any(both)
 }
 
 fn write_all(book: &mut Book, good: &Call) {
     let mut faults = MET.to_vec();
+    if !row_of(good.scheme).seals_nothing() {
+        faults.push(EMPTY);
+    }
     if good.direction == Direction::Open {
         faults.extend(OPENS);
     }
@@ -127,7 +144,7 @@ fn write_all(book: &mut Book, good: &Call) {
     }
     for (place, first) in faults.iter().enumerate() {
         for second in &faults[place + 1..] {
-            if can_meet(first, second) {
+            if can_meet(first, second, good.direction) {
                 write_faults(book, good, &[*first, *second]);
             }
         }
@@ -136,7 +153,7 @@ fn write_all(book: &mut Book, good: &Call) {
 
 pub fn write(book: &mut Book) {
     let mut random = Random::new(5);
-    for scheme in 1..=3 {
+    for scheme in numbers() {
         let call = Call::drawn(&mut random, scheme, 4, 9);
         book.section(&format!("Scheme {}: seals with faults", scheme));
         write_all(book, &call);

@@ -3,6 +3,7 @@
 use crate::book::Book;
 use compare::random::Random;
 use compare::records::Call;
+use compare::schemes::numbers;
 use compare::sealing::{DONE, NOT_AUTHENTIC, SHORT_ROOM};
 
 /// Larger than any block, so that a rest that is touched is seen.
@@ -22,7 +23,7 @@ fn write_rooms(book: &mut Book, call: &Call, number: u32) {
 
 pub fn write(book: &mut Book) {
     let mut random = Random::new(4);
-    for scheme in 1..=3 {
+    for scheme in numbers() {
         for body in [0, 21] {
             book.section(&format!("Scheme {}: rooms, body of {} bytes", scheme, body));
             let call = Call::drawn(&mut random, scheme, 5, body);
