@@ -9,8 +9,9 @@ use compare::entries::Told;
 use compare::random::Random;
 use compare::records::Direction;
 use compare::schemes::{Scheme, SCHEMES};
-use compare::sealing::{Rounds, NUMBERS};
+use compare::sealing::{numbers, Rounds};
 use compare::{auraski, second};
+use std::collections::BTreeMap;
 
 const SEED: u64 = 10;
 const BLOCK_CALLS: usize = 20_000;
@@ -23,7 +24,7 @@ const MOST: usize = 100;
 const BEFORE: u8 = 0xa5;
 
 /// How often each number has been the answer.
-type Answered = [usize; NUMBERS];
+type Answered = BTreeMap<u32, usize>;
 
 /// What is the same for a record's calls, and where their answers are counted.
 struct Record<'a> {
@@ -69,13 +70,18 @@ fn rounds_of(side: Side, scheme: u32, header: usize, body: usize) -> Rounds {
 impl Record<'_> {
     /// Rarely a scheme, key or nonce that is refused, or both key and nonce.
     fn new<'a>(random: &mut Random, answered: &'a mut Answered) -> Record<'a> {
-        let number = 1 + random.below(3) as u32;
+        let last = SCHEMES.len();
+        let number = 1 + random.below(last) as u32;
         let nonce = Scheme::find(number).map_or(0, |scheme| scheme.nonce_bytes);
         let odd = random.below(100);
         let (short_key, long_nonce) = (matches!(odd, 1 | 3), matches!(odd, 2 | 3));
         let length = random.below(MOST + 1);
         Record {
-            scheme: if odd == 0 { near(random, 1, 3) } else { number },
+            scheme: if odd == 0 {
+                near(random, 1, last as u32)
+            } else {
+                number
+            },
             key: random.bytes(if short_key { 15 } else { 16 }),
             nonce: random.bytes(if long_nonce { nonce + 1 } else { nonce }),
             header: random.bytes(length),
@@ -101,7 +107,7 @@ impl Record<'_> {
             );
         }
         let (Told { number, length }, room) = ours;
-        self.answered[number as usize] += 1;
+        *self.answered.entry(number).or_insert(0) += 1;
         (length, room)
     }
 
@@ -154,11 +160,18 @@ impl Record<'_> {
     }
 }
 
-/// The longest header and body, and one byte more of each and of both.
+/// Nothing at all, the longest header and body, and one byte more of each and of
+/// both.
 fn check_limits(random: &mut Random, answered: &mut Answered) {
     for (scheme, row) in (1..).zip(&SCHEMES) {
-        for more in [[0, 0], [1, 0], [0, 1], [1, 1]] {
-            let [header, body] = more.map(|more| row.most_bytes() + more);
+        let (header, body) = (row.most_header_bytes(), row.most_body_bytes());
+        for (header, body) in [
+            (0, 0),
+            (header, body),
+            (header + 1, body),
+            (header, body + 1),
+            (header + 1, body + 1),
+        ] {
             let mut record = Record {
                 scheme,
                 key: random.bytes(16),
@@ -189,9 +202,9 @@ pub fn check() -> String {
     }
     check_limits(&mut random, &mut answered);
     assert!(
-        !answered.contains(&0),
+        numbers().all(|number| answered.contains_key(&number)),
         "a number was never the answer: {answered:?}"
     );
-    let calls: usize = answered.iter().sum();
-    format!("ours, rival and second answer alike: {BLOCK_CALLS} block calls, {calls} seals and opens (by number from 0: {answered:?}), and the rounds of their lengths; and ours with prepared keys as by key")
+    let calls: usize = answered.values().sum();
+    format!("ours, rival and second answer alike: {BLOCK_CALLS} block calls, {calls} seals and opens (by number: {answered:?}), and the rounds of their lengths; and ours with prepared keys as by key")
 }

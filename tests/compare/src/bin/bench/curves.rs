@@ -6,13 +6,15 @@ use crate::side::Side;
 use compare::records::Direction;
 use compare::schemes::{Mode, Scheme};
 
-/// How the lines of a scheme look, in any side's colour. The curves of schemes
-/// 2 and 3 nearly meet, so that one is wide and pale, and the other drawn on it.
-const LOOKS: [&str; 3] = [
-    "stroke-width=\"2.2\" stroke-dasharray=\"7 4\"",
-    "stroke-width=\"8\" stroke-opacity=\"0.3\"",
-    "stroke-width=\"1.8\"",
-];
+/// The lines of the schemes over 64-192 are broken. Curves of one cipher come near
+/// to one another, so that one is wide and pale, and the other drawn on it.
+const DASHED: &str = "stroke-width=\"2.2\" stroke-dasharray=\"7 4\"";
+const DOTTED: &str = "stroke-width=\"2.2\" stroke-dasharray=\"2 3\"";
+const WIDE: &str = "stroke-width=\"8\" stroke-opacity=\"0.3\"";
+const THIN: &str = "stroke-width=\"1.8\"";
+
+/// How the lines of a scheme look, in any side's colour.
+const LOOKS: [&str; 7] = [DASHED, WIDE, THIN, DASHED, DOTTED, WIDE, THIN];
 
 pub fn colour_of(side: Side) -> &'static str {
     match side {
@@ -39,6 +41,8 @@ pub fn name_of(number: u32) -> String {
     let mode = match scheme.mode {
         Mode::Paef => "PAEF",
         Mode::Saef => "SAEF",
+        Mode::Umbreon => "Umbreon",
+        Mode::Jolteon => "Jolteon",
     };
     format!("scheme {}: {} {}", number, mode, cipher_name(scheme.cipher))
 }
@@ -72,16 +76,23 @@ impl Curve {
     }
 }
 
-/// The figures of one direction that have a body.
-pub fn of_direction(figures: &[Figure], direction: Direction) -> Vec<&Figure> {
-    let shown = |figure: &&Figure| figure.kind.direction == direction && figure.kind.body > 0;
+/// The figures of some schemes and one direction that have a body.
+pub fn figures_of<'a>(
+    figures: &'a [Figure],
+    numbers: &[u32],
+    direction: Direction,
+) -> Vec<&'a Figure> {
+    let shown = |figure: &&Figure| {
+        let kind = figure.kind;
+        numbers.contains(&kind.number) && kind.direction == direction && kind.body > 0
+    };
     figures.iter().filter(shown).collect()
 }
 
-/// All curves of these figures, in the order in which they are drawn.
-pub fn curves_of(figures: &[&Figure]) -> Vec<Curve> {
+/// All curves of some schemes, in the order in which they are drawn.
+pub fn curves_of(figures: &[&Figure], numbers: &[u32]) -> Vec<Curve> {
     let mut curves = Vec::new();
-    for number in 1..=3 {
+    for &number in numbers {
         for side in [Side::Second, Side::Rival, Side::Ours] {
             curves.push(Curve::new(figures, number, side));
         }

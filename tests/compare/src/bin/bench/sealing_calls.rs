@@ -30,7 +30,7 @@ pub struct Kind {
 impl Kind {
     /// A body of the greatest length that the scheme takes.
     pub fn is_longest(&self) -> bool {
-        self.body == self.scheme.most_bytes()
+        self.body == self.scheme.most_body_bytes()
     }
 
     /// Of a batch: fewer for long bodies, so that batches are short.
@@ -146,7 +146,7 @@ pub fn timed() -> Vec<(Kind, Times)> {
 /// No body, one of sixteen bytes and of two times that, the fourfolds, and the
 /// longest that the scheme takes.
 fn bodies_of(scheme: &Scheme) -> Vec<usize> {
-    let most = scheme.most_bytes();
+    let most = scheme.most_body_bytes();
     let fourfolds = (0..).map(|times| FOURFOLD << (2 * times));
     let shorter = fourfolds.take_while(|body| *body < most);
     let first = [0, SHORTEST, 2 * SHORTEST].into_iter();
@@ -180,7 +180,7 @@ pub fn parse_kind(words: &[&str]) -> Option<Kind> {
         scheme,
         body,
     };
-    (body <= scheme.most_bytes()).then(|| kind)
+    (body <= scheme.most_body_bytes()).then(|| kind)
 }
 
 /// SIDE DIRECTION SCHEME BODY N.
