@@ -13,7 +13,7 @@
  *  43  the result blocks are left as they are where a prepared key is not admitted
  *  44  a block call judges the prepared key before the other numbers
  */
-#include "wrong.h"
+#include "call.h"
 
 #include <string.h>
 
@@ -50,12 +50,11 @@ static const uint8_t *taken(uint32_t cipher, const uint8_t prepared[PREPARED_BYT
 /* What is wrong where a prepared key is not admitted. */
 static uint32_t not_admitted(uint32_t scheme, size_t nonce_len, uint8_t *room, size_t room_len)
 {
-    static const size_t nonces[3] = {AURASKI_PAEF_64_192_NONCE, AURASKI_PAEF_128_256_NONCE, AURASKI_SAEF_128_256_NONCE};
     if (is_wrong(42))
         memset(room, 0, room_len);
     if (is_wrong(39))
         return AURASKI_UNKNOWN;
-    return is_wrong(40) && nonce_len != nonces[scheme - 1] ? AURASKI_WRONG_NONCE_LENGTH : AURASKI_WRONG_KEY_LENGTH;
+    return is_wrong(40) && nonce_len != scheme_of(scheme)->nonce ? AURASKI_WRONG_NONCE_LENGTH : AURASKI_WRONG_KEY_LENGTH;
 }
 
 typedef uint32_t sealing_call(uint32_t scheme, const uint8_t prepared[PREPARED_BYTES], const uint8_t *nonce, size_t nonce_len,
@@ -67,7 +66,7 @@ static uint32_t sealing(sealing_call *right, uint32_t scheme, const uint8_t *pre
                         size_t room_len, size_t *length)
 {
     size_t untold = *length;
-    uint32_t cipher = scheme == AURASKI_PAEF_64_192 ? AURASKI_64_192 : AURASKI_128_256;
+    uint32_t cipher = scheme_of(scheme)->block == 8 ? AURASKI_64_192 : AURASKI_128_256;
     uint32_t number = right(scheme, taken(cipher, prepared), nonce, nonce_len, header, header_len, text, text_len, room, room_len, length);
     if (number != AURASKI_WRONG_KEY_LENGTH)
         return number;

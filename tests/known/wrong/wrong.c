@@ -36,8 +36,8 @@
  *  31  of a length only the low 16 bits count
  *  32  a length is judged before the scheme
  *
- * or one of prepared.c; and nothing with 0. */
-#include "wrong.h"
+ * or one of prepared.c or eevee.c; and nothing with 0. Schemes 4 to 7 are worked by eevee.c every time, so that with 0 it is seen to be right. */
+#include "call.h"
 
 #include <stdlib.h>
 #include <string.h>
@@ -47,40 +47,17 @@ enum { LONGEST_ROOM = 1048596 };
 
 int is_wrong(int number)
 {
-    const char *named = getenv("WRONG");
-    return named != NULL && atoi(named) == number;
-}
-
-/* Seal and open have one shape. */
-struct call {
-    int opens;
-    uint32_t scheme;
-    const uint8_t *key, *nonce, *header, *text;
-    size_t key_len, nonce_len, header_len, text_len;
-    uint8_t *room;
-    size_t room_len, *length;
-};
-
-static size_t block_of(const struct call *c)
-{
-    return c->scheme == 1 ? 8 : 16;
-}
-
-static size_t nonce_of(const struct call *c)
-{
-    static const size_t nonces[3] = {6, 14, 15};
-    return nonces[c->scheme - 1];
-}
-
-static size_t limit_of(const struct call *c)
-{
-    static const size_t limits[3] = {65528, 131056, 1048576};
-    return limits[c->scheme - 1];
+    static int wrong = -1;
+    if (wrong < 0) {
+        const char *named = getenv("WRONG");
+        wrong = named != NULL ? atoi(named) : 0;
+    }
+    return wrong == number;
 }
 
 static size_t longest_text_of(const struct call *c)
 {
-    return limit_of(c) + (c->opens ? block_of(c) : 0);
+    return scheme_of(c->scheme)->body + (c->opens ? block_of(c) : 0);
 }
 
 static size_t output_of(const struct call *c)
@@ -104,7 +81,7 @@ static uint32_t wrong_check(const struct call *c, uint32_t number)
         return 5;
     if (is_wrong(3) && (number == 0 || number == 6) && c->room_len == output_of(c))
         return 5;
-    if (is_wrong(6) && (number == 0 || number == 6) && c->header_len == limit_of(c))
+    if (is_wrong(6) && (number == 0 || number == 6) && c->header_len == scheme_of(c->scheme)->header)
         return 3;
     if (is_wrong(7) && number == 8 && c->text_len == longest_text_of(c) + 1)
         return c->opens ? 6 : 0;
@@ -120,7 +97,7 @@ static uint32_t wrong_length(const struct call *c, uint32_t number)
         return 2;
     if (is_wrong(18) && number == 8)
         return 3;
-    if (is_wrong(19) && number == 2 && c->nonce_len != nonce_of(c))
+    if (is_wrong(19) && number == 2 && c->nonce_len != scheme_of(c->scheme)->nonce)
         return 7;
     if (is_wrong(20) && number == 3 && c->text_len > longest_text_of(c))
         return 8;
@@ -130,40 +107,41 @@ static uint32_t wrong_length(const struct call *c, uint32_t number)
 /* The same under a limit that is another scheme's. */
 static uint32_t wrong_limit(const struct call *c, uint32_t number)
 {
-    struct call other = *c;
-    other.scheme = 2;
+    const struct scheme *other = scheme_of(2);
     if (!is_wrong(22) || c->scheme != 3 || (number != 0 && number != 6))
         return number;
-    if (c->header_len > limit_of(&other))
+    if (c->header_len > other->header)
         return 3;
-    return c->text_len > longest_text_of(&other) ? 8 : number;
+    return body_of(c) > other->body ? 8 : number;
 }
 
-/* Calls the library with what is wrong about the arguments. */
-static uint32_t changed_call(struct call c)
+/* What is wrong about the arguments. */
+static void change(struct call *c)
 {
     static const uint8_t padded[16] = {0x80};
     if (is_wrong(9))
-        c.scheme &= 255;
-    if (is_wrong(10) && c.header_len > 0 && c.header[c.header_len - 1] == 0x80)
-        c.header_len--;
-    if (is_wrong(11) && c.header_len == 0) {
-        c.header = padded;
-        c.header_len = block_of(&c);
+        c->scheme &= 255;
+    if (is_wrong(10) && c->header_len > 0 && c->header[c->header_len - 1] == 0x80)
+        c->header_len--;
+    if (is_wrong(11) && c->header_len == 0) {
+        c->header = padded;
+        c->header_len = block_of(c);
     }
-    return right_call(&c);
 }
 
 static uint32_t sealing(struct call c)
 {
     static uint8_t kept[1 + LONGEST_ROOM];
+    change(&c);
     size_t untold = *c.length, output = output_of(&c);
     memcpy(kept + 1, c.room, c.room_len);
-    uint32_t number = changed_call(c);
-    uint32_t answer = wrong_limit(&c, wrong_length(&c, wrong_check(&c, number)));
+    uint32_t number = right_call(&c);
+    uint32_t answer = wrong_eevee_number(&c, wrong_limit(&c, wrong_length(&c, wrong_check(&c, number))));
     if (answer != number) {
         memcpy(c.room, kept + 1, c.room_len);
         *c.length = 0;
+    } else if (is_eevee(&c) && (number == 0 || number == 6)) {
+        answer = number = eevee_call(&c);
     }
     if (is_wrong(1) && number != 0)
         *c.length = untold;
@@ -173,7 +151,7 @@ static uint32_t sealing(struct call c)
         c.room[output - 1] = kept[output];
     if (is_wrong(16) && number == 0)
         c.room[c.room_len] = 0;
-    if (is_wrong(21) && (number == 7 || number == 8))
+    if ((is_wrong(21) && (number == 7 || number == 8)) || (is_wrong(66) && number == 10))
         memset(c.room, 0, c.room_len);
     return answer;
 }
@@ -242,9 +220,9 @@ uint32_t wrong_unfork(uint32_t cipher, const uint8_t key[16], const uint8_t twea
 /* What is wrong with the number. */
 static uint32_t wrong_answer(const struct call *c, uint32_t number)
 {
-    if (is_wrong(29) && number == 3 && c->text_len > limit_of(c))
+    if (is_wrong(29) && number == 3 && c->text_len > scheme_of(c->scheme)->body)
         return 8;
-    if (is_wrong(30) && number == 0 && c->text_len == limit_of(c))
+    if (is_wrong(30) && number == 0 && c->text_len == scheme_of(c->scheme)->body)
         return 8;
     if (is_wrong(32) && number == 1 && c->header_len > 1048576)
         return 3;
@@ -262,10 +240,10 @@ static uint32_t rounds_at(const struct call *c, uint32_t header_block, uint32_t 
 /* What is wrong with the rounds of lengths that are taken. */
 static uint32_t wrong_count(const struct call *c, uint32_t rounds)
 {
-    uint32_t one = c->scheme == 1 ? 40 : 48, both = c->scheme == 1 ? 63 : 75;
+    uint32_t one = block_of(c) == 8 ? 40 : 48, both = block_of(c) == 8 ? 63 : 75;
     if (is_wrong(23) && c->header_len == 0 && c->text_len == 0)
         return 0;
-    if (is_wrong(24))
+    if (is_wrong(24) && c->scheme == 1)
         return rounds_at(c, 48, 75);
     if (is_wrong(25) && c->header_len % block_of(c) > 0)
         rounds -= one;
@@ -286,6 +264,8 @@ uint32_t wrong_rounds(uint32_t scheme, size_t header_len, size_t body_len, uint3
     uint32_t answer = wrong_answer(&c, number);
     if (number == 0)
         *rounds = answer == 0 ? wrong_count(&c, *rounds) : 0;
+    if (is_eevee(&c))
+        answer = wrong_eevee_rounds(&c, answer, rounds);
     if (is_wrong(27) && number != 0)
         *rounds = untold;
     if (is_wrong(28) && (number == 3 || number == 8))

@@ -1,4 +1,4 @@
-/* Implementations of which each is wrong in one thing; wrong.c and prepared.c say in which. */
+/* Implementations of which each is wrong in one thing; wrong.c, prepared.c and eevee.c say in which. */
 #ifndef KNOWN_WRONG_H
 #define KNOWN_WRONG_H
 

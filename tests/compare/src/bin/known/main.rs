@@ -31,7 +31,7 @@ fn side_of(word: &str) -> Option<&'static Side> {
 }
 
 /// The sections stand by themselves: each has its own numbers to draw from. The
-/// limits come last, so that tests/known/run can leave the longest of them out.
+/// limits come last, so that tests/known/run can leave out those that take long.
 fn whole_text(side: &'static Side) -> String {
     let mut book = Book::new(side);
     blocks::write(&mut book);
