@@ -2,7 +2,18 @@
 something changed in them. The kinds take turns."""
 
 from fixed import filled, make_seal, random_bytes
-from layout import MOST, NONCE, SCHEMES, Named, named, twin, with_count
+from layout import (
+    BLOCK,
+    MOST,
+    NONCE,
+    SCHEMES,
+    WITHOUT_NOTHING,
+    Named,
+    Sealed,
+    named,
+    twin,
+    with_count,
+)
 
 # How many seals the opens and the changed jobs are drawn from.
 POOL = 300
@@ -98,10 +109,17 @@ def any_scheme(random, job):
 
 
 def other_scheme(random, job):
-    """Another of the three, with a nonce that fits it."""
+    """Another one, with a nonce that fits it."""
     scheme = random.choice([scheme for scheme in SCHEMES if scheme != job.scheme])
     nonce = (job.nonce + bytes(15))[: NONCE[scheme]]
     return job._replace(scheme=scheme, nonce=nonce)
+
+
+def nothing(random, _):
+    """No header, and no body or a run of a block, where that is not sealed."""
+    seal = make_seal(random, random.choice(WITHOUT_NOTHING), 0, 0)
+    run = random_bytes(random, BLOCK[seal.scheme])
+    return random.choice((seal, Sealed(seal, run).opening()))
 
 
 def any_direction(random, job):
@@ -131,6 +149,7 @@ WHOLE = (
     key_and_nonce_resized,
     any_scheme,
     other_scheme,
+    nothing,
     any_direction,
     about_the_longest,
 )

@@ -9,8 +9,11 @@ from layout import (
     NONCE,
     SCHEMES,
     SEAL,
+    UNKNOWN,
+    WITHOUT_NOTHING,
     Job,
     Named,
+    Sealed,
     fill_length,
     named,
     number,
@@ -18,8 +21,11 @@ from layout import (
     with_count,
 )
 
-# Lengths of headers and bodies on both sides of where blocks end.
-EDGES = (0, 1, 7, 8, 9, 15, 16, 17, 31, 32, 33, 48)
+
+def edges(scheme):
+    """Lengths of headers and bodies on both sides of where blocks end."""
+    block = BLOCK[scheme]
+    return (0, 1, block - 1, block, block + 1, 2 * block - 1, 2 * block, 2 * block + 1, 3 * block)
 
 
 def random_bytes(random, length):
@@ -41,8 +47,8 @@ def edge_seals(random):
     return [
         make_seal(random, scheme, header, body)
         for scheme in SCHEMES
-        for header in EDGES
-        for body in EDGES
+        for header in edges(scheme)
+        for body in edges(scheme)
     ]
 
 
@@ -80,6 +86,17 @@ def short_runs(short):
     ]
 
 
+def runs_of_nothing(random):
+    """Runs of about a block under no header, where nothing is not sealed."""
+    runs = []
+    for scheme in WITHOUT_NOTHING:
+        seal = make_seal(random, scheme, 0, 0)
+        for length in (BLOCK[scheme] - 1, BLOCK[scheme], BLOCK[scheme] + 1):
+            for run in (bytes(length), random_bytes(random, length)):
+                runs.append(Sealed(seal, run).opening())
+    return runs
+
+
 def wrong_lengths(jobs):
     """Among them some of which only the count's high byte is wrong."""
     wrong = []
@@ -97,14 +114,15 @@ def wrong_lengths(jobs):
 
 
 def unknown_schemes(jobs):
-    return [job._replace(scheme=scheme) for job in jobs for scheme in (0, 4, 5, 127, 128, 255)]
+    schemes = (0, UNKNOWN, UNKNOWN + 1, 127, 128, 255)
+    return [job._replace(scheme=scheme) for job in jobs for scheme in schemes]
 
 
 def other_directions(jobs):
     return [
         job._replace(scheme=scheme, direction=direction)
         for job in jobs[:1]
-        for scheme in (0, 1, 2, 3, 4, 255)
+        for scheme in (0, *SCHEMES, UNKNOWN, 255)
         for direction in (2, 3, 127, 128, 254, 255)
     ]
 
@@ -143,8 +161,8 @@ def low_byte_first(jobs):
 def tiny_jobs():
     """Fewer bytes than the counts of four empty sections take, and just those."""
     tiny = [bytes(length) for length in range(11)]
-    tiny += [bytes([scheme]) for scheme in (1, 3, 4, 255)]
-    return tiny + [bytes([scheme, direction]) for scheme in (1, 4) for direction in (0, 1, 2)]
+    tiny += [bytes([scheme]) for scheme in (*SCHEMES, UNKNOWN, 255)]
+    return tiny + [bytes([scheme, direction]) for scheme in (1, UNKNOWN) for direction in (0, 1, 2)]
 
 
 def long_jobs(random, jobs):
@@ -154,7 +172,7 @@ def long_jobs(random, jobs):
     for job in jobs:
         for size in (MOST, MOST + 1, 20000, 40000):
             long.append(filled(random, job, "key", size))
-            long.append(filled(random, job, "body", size)._replace(scheme=4))
+            long.append(filled(random, job, "body", size)._replace(scheme=UNKNOWN))
         long.append(filled(random, job, "nonce", MOST))
         # A header that fills the job, so that no byte of a body or run is left.
         long.append(filled(random, job._replace(body=b""), "header", MOST))
@@ -186,6 +204,7 @@ def make(random, seal_all):
         job = sealed.opening()
         made += named("a header with or without 80", job._replace(header=twin(job.header)))
     made += named("a run of a block or less", *short_runs(short))
+    made += named("a run of about a block and no header", *runs_of_nothing(random))
     made += named("a wrong length of key or nonce", *wrong_lengths(good))
     made += named("an unknown scheme", *unknown_schemes(good))
     made += named("another direction", *other_directions(good))

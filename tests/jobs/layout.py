@@ -4,12 +4,16 @@ jobs as the second program reads it."""
 from typing import NamedTuple
 
 SEAL, OPEN = 0, 1
-SCHEMES = (1, 2, 3)
+SCHEMES = (1, 2, 3, 4, 5, 6, 7)
+# The first number behind them.
+UNKNOWN = 8
+# Those that refuse an empty header over an empty body with 10 (C-14).
+WITHOUT_NOTHING = (4, 5, 6, 7)
 
-# Sizes in bytes (document 01, the table of the desk's part).
+# Sizes in bytes (document 01, the table of the desk's part, and C-14).
 KEY = 16
-NONCE = {1: 6, 2: 14, 3: 15}
-BLOCK = {1: 8, 2: 16, 3: 16}
+NONCE = {1: 6, 2: 14, 3: 15, 4: 6, 5: 6, 6: 14, 7: 14}
+BLOCK = {1: 8, 2: 16, 3: 16, 4: 8, 5: 8, 6: 16, 7: 16}
 
 # Bytes of a job at most; a longer one is 9.
 MOST = 16384

@@ -12,7 +12,10 @@ from layout import (
     OPEN,
     SCHEMES,
     SEAL,
+    UNKNOWN,
+    WITHOUT_NOTHING,
     Job,
+    Sealed,
     fill_length,
     with_count,
 )
@@ -62,10 +65,13 @@ def accident_jobs(second, scheme):
 
 
 def empty_jobs(second, scheme):
-    empty = sealed(second, scheme, b"", b"")
+    if scheme in WITHOUT_NOTHING:
+        number, empty = 10, Sealed(seal_of(scheme, b"", b""), bytes(BLOCK[scheme]))
+    else:
+        number, empty = 0, sealed(second, scheme, b"", b"")
     return [
-        ("seal of nothing under nothing", 0, empty.seal),
-        ("open of nothing under nothing", 0, empty.opening()),
+        ("seal of nothing under nothing", number, empty.seal),
+        ("open of nothing under nothing", number, empty.opening()),
     ]
 
 
@@ -87,11 +93,26 @@ def refused_jobs(second, scheme):
     ]
 
 
+def sibling_jobs(second):
+    """Runs of Umbreon opened by Jolteon over the same cipher. Of a body of at
+    most a block both make the same run."""
+    jobs = []
+    for umbreon, jolteon in ((4, 5), (6, 7)):
+        whole = sealed(second, umbreon, HEADER, BODY[: BLOCK[umbreon]])
+        longer = sealed(second, umbreon, HEADER, BODY)
+        about = "scheme %d opened under %d, " % (umbreon, jolteon)
+        jobs += [
+            (about + "a body of a block", 0, whole.opening()._replace(scheme=jolteon)),
+            (about + "a longer body", 6, longer.opening()._replace(scheme=jolteon)),
+        ]
+    return jobs
+
+
 def scheme_jobs():
     seal = seal_of(1, HEADER, BODY)
     return [
         ("seal under scheme 0", 1, seal._replace(scheme=0)),
-        ("open under scheme 4", 1, seal._replace(scheme=4, direction=OPEN)),
+        ("open under the next scheme", 1, seal._replace(scheme=UNKNOWN, direction=OPEN)),
         ("seal under scheme 255", 1, seal._replace(scheme=255)),
     ]
 
@@ -110,7 +131,7 @@ def malformed_jobs():
         ("a body's count one less", 9, with_count(seal, 3, len(BODY) - 1)),
         ("direction 2", 9, seal._replace(direction=2)),
         ("direction 255", 9, seal._replace(direction=255)),
-        ("direction 2 under scheme 4", 9, seal._replace(scheme=4, direction=2)),
+        ("direction 2 under no scheme", 9, seal._replace(scheme=UNKNOWN, direction=2)),
     ]
 
 
@@ -141,7 +162,7 @@ def make(second):
                 ("scheme %d, %s" % (scheme, name), number, job)
                 for name, number, job in kind(second, scheme)
             ]
-    jobs += scheme_jobs() + malformed_jobs() + long_jobs(second)
+    jobs += sibling_jobs(second) + scheme_jobs() + malformed_jobs() + long_jobs(second)
     return [
         Stored(name, number, job.laid_out() if isinstance(job, Job) else job)
         for name, number, job in jobs

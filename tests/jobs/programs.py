@@ -14,7 +14,7 @@ from layout import Sealed, stream
 
 # What a job can be answered with. Never 3 or 8: their limits lie above 65,000
 # bytes, and a job has at most 16,384. Never 5: the room is always large enough.
-ANSWERS = (0, 1, 2, 4, 6, 7, 9)
+ANSWERS = (0, 1, 2, 4, 6, 7, 9, 10)
 
 # Seconds after which a program is ended that does not end by itself. The
 # second program has all jobs to do, sealjob one.
@@ -24,7 +24,7 @@ PATIENCE_ONE = 60
 # Seconds between the pieces of a job.
 PAUSE = 0.1
 
-LINE = re.compile(rb"([0-9]) ([0-9]+) ([0-9a-f]+|-)\n")
+LINE = re.compile(rb"([0-9]+) ([0-9]+) ([0-9a-f]+|-)\n")
 
 
 def stop(sentence):
