@@ -31,11 +31,16 @@ pub record Wide (s : Scheme) : Type 0 where
 pub wide : (number : ℕ) (s : Scheme) → schemeOf number ≡ Known s → Wide s
 wide =
     each-named Wide (
-      record { key = refl; header = omega arith; body = omega arith }, (
-        record { key = refl; header = omega arith; body = omega arith }, (
-          record { key = refl; header = omega arith; body = omega arith }, (
-            record { key = refl; header = omega arith; body = omega arith }, (
-              record { key = refl; header = omega arith; body = omega arith }, (
+      record { key = refl; header = omega arith; body = omega arith },
+      (
+        record { key = refl; header = omega arith; body = omega arith },
+        (
+          record { key = refl; header = omega arith; body = omega arith },
+          (
+            record { key = refl; header = omega arith; body = omega arith },
+            (
+              record { key = refl; header = omega arith; body = omega arith },
+              (
                 record { key = refl; header = omega arith; body = omega arith },
                 (record { key = refl; header = omega arith; body = omega arith }, tt),
               ),
