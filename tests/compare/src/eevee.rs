@@ -5,9 +5,8 @@
 use crate::blocks::{is_padding, load_block, pad10, split_last, xor, Block};
 use crate::schemes::Keyed;
 
-/// What a mode makes of the blocks before a body's last one, in the other run:
-/// they are sealed or opened. It is given T_A, and gives what is added to the
-/// last block.
+/// How a mode seals, or opens, the blocks before a body's last one, from one run
+/// into the other. It is given T_A, and gives what is added to the last block.
 pub type Front = fn(&mut Keyed, Block, &[u8], &mut [u8]) -> Block;
 
 fn make_tweak(nonce: &[u8], end: u16) -> Block {

@@ -1,7 +1,7 @@
 //! 000, figure 9: runs put together block by block as in `figures`, with the
 //! bits behind the nonce written out, and the last numbers that these bits hold.
 
-use crate::figures::{call, check, Step};
+use crate::figures::{call, check, RunOf, Step};
 use crate::{size_of, Case, LIMITS, SIBLINGS};
 use compare::blocks::{load_block, xor, Block};
 use compare::calls::Fork;
@@ -68,8 +68,7 @@ fn jolteon_run(case: &Case, header: &[Step], body: &[Step], last: usize) -> Vec<
 /// Under either scheme of a cipher the tweaks are the same.
 #[test]
 fn schemes_4_and_5_are_figure_9() {
-    let runs: [(u32, fn(&Case, &[Step], &[Step], usize) -> Vec<u8>); 2] =
-        [(4, umbreon_run), (5, jolteon_run)];
+    let runs: [(u32, RunOf); 2] = [(4, umbreon_run), (5, jolteon_run)];
     for (scheme, run_of) in runs {
         check(scheme, run_of, (7, &[b"\x00\x04"], 0, &[], 0));
         check(scheme, run_of, (8, &[b"\x00\x0c"], 0, &[], 0));
@@ -93,8 +92,7 @@ fn schemes_4_and_5_are_figure_9() {
 
 #[test]
 fn schemes_6_and_7_are_figure_9() {
-    let runs: [(u32, fn(&Case, &[Step], &[Step], usize) -> Vec<u8>); 2] =
-        [(6, umbreon_run), (7, jolteon_run)];
+    let runs: [(u32, RunOf); 2] = [(6, umbreon_run), (7, jolteon_run)];
     for (scheme, run_of) in runs {
         check(scheme, run_of, (1, &[b"\x00\x04"], 0, &[], 0));
         check(scheme, run_of, (32, &[b"\x00\x14", b"\x00\x0c"], 0, &[], 0));

@@ -17,6 +17,10 @@ fn padded(part: &[u8], size: usize) -> Vec<u8> {
     block
 }
 
+/// How a run is put together of a header's steps and a body's; its last block has
+/// so many bytes.
+pub(crate) type RunOf = fn(&Case, &[Step], &[Step], usize) -> Vec<u8>;
+
 /// Both halves of a block, under a tweak with this front and this end.
 pub(crate) fn call(case: &Case, front: &[u8], end: &[u8], block: &Block) -> Fork {
     let tweak = load_block(&[front, end].concat());
@@ -89,7 +93,7 @@ type Example<'a> = (usize, &'a [&'a [u8]], usize, &'a [&'a [u8]], usize);
 /// What is sealed is what is put together.
 pub(crate) fn check(
     scheme: u32,
-    run_of: fn(&Case, &[Step], &[Step], usize) -> Vec<u8>,
+    run_of: RunOf,
     (header_length, header_ends, body_length, body_ends, last): Example,
 ) {
     let size = size_of(scheme);

@@ -1,6 +1,5 @@
-//! Umbreon and Jolteon over one cipher. By the listing they differ from a body's
-//! second block on: the first is masked by T_A, or T_A goes into Delta, which is
-//! the same where it is the last.
+//! Umbreon and Jolteon over one cipher. By the listing both add T_A to the only
+//! block of a body, and differ where there are more.
 
 use crate::{size_of, Case, SIBLINGS};
 use compare::random::Random;
