@@ -341,6 +341,13 @@ static void any_record(void)
         damaged("a call is seal, open, fork or unfork, any of them with _prepared behind it, rounds or prepare");
 }
 
+/* FIRST_ONLY ends the reading at the first record that does not hold, which is enough to refuse an implementation. */
+#ifdef FIRST_ONLY
+#define READS_ON (wrong_records == 0)
+#else
+#define READS_ON 1
+#endif
+
 int main(int count, char **arguments)
 {
     if (count != 2) {
@@ -348,7 +355,7 @@ int main(int count, char **arguments)
         return 2;
     }
     open_file(arguments[1]);
-    while (read_number_or_end("record", &record)) {
+    while (READS_ON && read_number_or_end("record", &record)) {
         record_line = line_number();
         record_is_wrong = 0;
         any_record();
