@@ -1,6 +1,6 @@
 -- The block calls that a rule makes, and the rounds that they run (C-13): the list, the sum, the formula. What each block asks for stands
--- with its lines (Paef.antt and Saef.antt, the last fields of the modes). That a rule looks at no other call is proofs/Only.antt, and that
--- the sum is the formula proofs/Rounds.antt. Assumes nothing.
+-- with its lines (the last fields of each mode). That a rule looks at no other call is proofs/Only.antt, and EeveeOnly.antt; that the sum is
+-- the formula, proofs/Rounds.antt. Assumes nothing.
 use Prim.Native.Nat.{ℕ, zero, suc, _+_, _-_, _*_}
 use mathlib.Core.Bool.{Bool, not, _&&_, cond}
 use mathlib.Core.List.{List, [], _∷_, _++_}

@@ -1,9 +1,9 @@
--- The boundary figures of document 01 (What a caller is told; 3 and 8 parted by C-11, scheme 3's limit by C-12; schemes 4 to 7 by C-14), one table: the lengths
--- that go into a call, and the number that its checks answer; 0 says that no check applies. Key and nonce have the scheme's lengths. Assumes
--- nothing.
-use Prim.Native.Nat.{ℕ}
+-- The boundary figures of document 01 (What a caller is told; 3 and 8 parted by C-11, scheme 3's limit by C-12, schemes 4 to 7 by C-14), one
+-- table: the lengths that go into a call, and the number that its checks answer; 0 says that no check applies. Key and nonce have the
+-- scheme's lengths. Assumes nothing.
+use Prim.Native.Nat.{ℕ, _+_, _-_}
 use mathlib.Core.Bool.{Bool, true, false}
-use mathlib.Core.List.{List, [], _∷_}
+use mathlib.Core.List.{List, [], _∷_, _++_}
 use Rattle.schemes.specs.declared.Named.{Named}
 use Rattle.schemes.specs.declared.Named.the-variants.{Known, Unknown}
 use Rattle.schemes.specs.Checks.{checked}
@@ -25,6 +25,27 @@ seals scheme header body room number =
 abbrev opening : (scheme header run room number : ℕ) → Figure
 opening scheme header run room number =
     record { opens = true; scheme = scheme; header = header; input = run; room = room; number = number }
+
+-- a scheme with blocks of n bytes that has no run for an empty header and an empty body takes a header of h bytes and a body of b, and
+-- refuses one more; where both are empty it is 10, behind 4 and 5
+abbrev eevee : (scheme n h b : ℕ) → List Figure
+eevee scheme n h b =
+    seals scheme 0 b (b + n) 0
+    ∷ seals scheme 0 (b + 1) (b + 1 + n) 8
+    ∷ seals scheme h 0 n 0
+    ∷ seals scheme (h + 1) 0 n 3
+    ∷ opening scheme h (b + n) b 0
+    ∷ opening scheme h (b + 1 + n) (b + 1) 8
+    ∷ opening scheme (h + 1) (b + n) b 3
+    ∷ opening scheme 0 (n - 1) 0 4
+    ∷ opening scheme 0 n 0 10
+    ∷ opening scheme 1 n 0 0
+    ∷ opening scheme 0 (n + 1) 1 0
+    ∷ seals scheme 0 0 (n - 1) 5
+    ∷ seals scheme 0 0 n 10
+    ∷ seals scheme 1 0 n 0
+    ∷ seals scheme 0 1 (n + 1) 0
+    ∷ []
 
 abbrev pub figures : List Figure
 figures =
@@ -65,70 +86,6 @@ figures =
     ∷ opening 2 0 16 0 0
     ∷ opening 3 0 15 0 4
     ∷ opening 3 0 16 0 0
-    -- scheme 4 takes a header of 131,040 bytes and a body of 262,136; header and body both empty are 10, behind 4 and 5
-    ∷ seals 4 0 262136 262144 0
-    ∷ seals 4 0 262137 262145 8
-    ∷ seals 4 131040 0 8 0
-    ∷ seals 4 131041 0 8 3
-    ∷ opening 4 131040 262144 262136 0
-    ∷ opening 4 131040 262145 262137 8
-    ∷ opening 4 131041 262144 262136 3
-    ∷ opening 4 0 7 0 4
-    ∷ opening 4 0 8 0 10
-    ∷ opening 4 1 8 0 0
-    ∷ opening 4 0 9 1 0
-    ∷ seals 4 0 0 7 5
-    ∷ seals 4 0 0 8 10
-    ∷ seals 4 1 0 8 0
-    ∷ seals 4 0 1 9 0
-    -- scheme 5 takes a header of 131,040 bytes and a body of 262,136; header and body both empty are 10, behind 4 and 5
-    ∷ seals 5 0 262136 262144 0
-    ∷ seals 5 0 262137 262145 8
-    ∷ seals 5 131040 0 8 0
-    ∷ seals 5 131041 0 8 3
-    ∷ opening 5 131040 262144 262136 0
-    ∷ opening 5 131040 262145 262137 8
-    ∷ opening 5 131041 262144 262136 3
-    ∷ opening 5 0 7 0 4
-    ∷ opening 5 0 8 0 10
-    ∷ opening 5 1 8 0 0
-    ∷ opening 5 0 9 1 0
-    ∷ seals 5 0 0 7 5
-    ∷ seals 5 0 0 8 10
-    ∷ seals 5 1 0 8 0
-    ∷ seals 5 0 1 9 0
-    -- scheme 6 takes a header of 262,080 bytes and a body of 524,272; header and body both empty are 10, behind 4 and 5
-    ∷ seals 6 0 524272 524288 0
-    ∷ seals 6 0 524273 524289 8
-    ∷ seals 6 262080 0 16 0
-    ∷ seals 6 262081 0 16 3
-    ∷ opening 6 262080 524288 524272 0
-    ∷ opening 6 262080 524289 524273 8
-    ∷ opening 6 262081 524288 524272 3
-    ∷ opening 6 0 15 0 4
-    ∷ opening 6 0 16 0 10
-    ∷ opening 6 1 16 0 0
-    ∷ opening 6 0 17 1 0
-    ∷ seals 6 0 0 15 5
-    ∷ seals 6 0 0 16 10
-    ∷ seals 6 1 0 16 0
-    ∷ seals 6 0 1 17 0
-    -- scheme 7 takes a header of 262,080 bytes and a body of 524,272; header and body both empty are 10, behind 4 and 5
-    ∷ seals 7 0 524272 524288 0
-    ∷ seals 7 0 524273 524289 8
-    ∷ seals 7 262080 0 16 0
-    ∷ seals 7 262081 0 16 3
-    ∷ opening 7 262080 524288 524272 0
-    ∷ opening 7 262080 524289 524273 8
-    ∷ opening 7 262081 524288 524272 3
-    ∷ opening 7 0 15 0 4
-    ∷ opening 7 0 16 0 10
-    ∷ opening 7 1 16 0 0
-    ∷ opening 7 0 17 1 0
-    ∷ seals 7 0 0 15 5
-    ∷ seals 7 0 0 16 10
-    ∷ seals 7 1 0 16 0
-    ∷ seals 7 0 1 17 0
     -- a run shorter than a block has no body to judge under 8: it is 4, but 3 under too long a header
     ∷ opening 1 65529 7 0 3
     -- a room one byte short is 5; an exact room is enough
@@ -144,7 +101,11 @@ figures =
     ∷ seals 3 16 5 21 0
     ∷ opening 3 16 21 4 5
     ∷ opening 3 16 21 5 0
-    ∷ []
+    -- schemes 4 and 5 take a header of 131,040 bytes and a body of 262,136, schemes 6 and 7 one of 262,080 and one of 524,272
+    ∷ eevee 4 8 131040 262136
+    ++ eevee 5 8 131040 262136
+    ++ eevee 6 16 262080 524272
+    ++ eevee 7 16 262080 524272
 
 -- ---- its two sides
 

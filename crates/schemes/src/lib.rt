@@ -4,6 +4,7 @@ pub mod checks;
 use ciphers::Cipher;
 use states::Kind;
 ghost use mathlib.Core.Path.{_≡_};
+ghost use Rattle.schemes.specs.declared.Named.the-variants.{Known};
 ghost use Rattle.schemes.specs.Schemes.{schemeOf};
 
 // A scheme: cipher and mode, bytes of its key and nonce, and the most bytes of a header and of a body.
@@ -22,78 +23,43 @@ pub enum Named {
     Unknown,
 }
 
+// A row of the table: cipher, mode, bytes of the nonce, and the most bytes of a header and of a body. A key has 16 bytes under each.
+fn row_of(cipher: Cipher, kind: Kind, nonce: usize, header: usize, body: usize) -> Named
+    ensures { λ r. ⌜ r ≡ Known (record { cipher = cipher; kind = kind; key = 16; nonce = nonce; header = header; body = body }) ⌝ }
+{
+    Named::Known(Scheme {
+        cipher,
+        kind,
+        key: 16,
+        nonce,
+        header,
+        body,
+    })
+}
+
 pub fn scheme_of(number: u32) -> Named
     ensures { λ r. ⌜ r ≡ schemeOf number ⌝ }
 {
     if number == 1 {
-        return Named::Known(Scheme {
-            cipher: Cipher::N64T192,
-            kind: Kind::Paef,
-            key: 16,
-            nonce: 6,
-            header: 65528,
-            body: 65528,
-        });
+        return row_of(Cipher::N64T192, Kind::Paef, 6, 65528, 65528);
     }
     if number == 2 {
-        return Named::Known(Scheme {
-            cipher: Cipher::N128T256,
-            kind: Kind::Paef,
-            key: 16,
-            nonce: 14,
-            header: 131056,
-            body: 131056,
-        });
+        return row_of(Cipher::N128T256, Kind::Paef, 14, 131056, 131056);
     }
     if number == 3 {
-        return Named::Known(Scheme {
-            cipher: Cipher::N128T256,
-            kind: Kind::Saef,
-            key: 16,
-            nonce: 15,
-            header: 1048576,
-            body: 1048576,
-        });
+        return row_of(Cipher::N128T256, Kind::Saef, 15, 1048576, 1048576);
     }
     if number == 4 {
-        return Named::Known(Scheme {
-            cipher: Cipher::N64T192,
-            kind: Kind::Umbreon,
-            key: 16,
-            nonce: 6,
-            header: 131040,
-            body: 262136,
-        });
+        return row_of(Cipher::N64T192, Kind::Umbreon, 6, 131040, 262136);
     }
     if number == 5 {
-        return Named::Known(Scheme {
-            cipher: Cipher::N64T192,
-            kind: Kind::Jolteon,
-            key: 16,
-            nonce: 6,
-            header: 131040,
-            body: 262136,
-        });
+        return row_of(Cipher::N64T192, Kind::Jolteon, 6, 131040, 262136);
     }
     if number == 6 {
-        return Named::Known(Scheme {
-            cipher: Cipher::N128T256,
-            kind: Kind::Umbreon,
-            key: 16,
-            nonce: 14,
-            header: 262080,
-            body: 524272,
-        });
+        return row_of(Cipher::N128T256, Kind::Umbreon, 14, 262080, 524272);
     }
     if number == 7 {
-        return Named::Known(Scheme {
-            cipher: Cipher::N128T256,
-            kind: Kind::Jolteon,
-            key: 16,
-            nonce: 14,
-            header: 262080,
-            body: 524272,
-        });
+        return row_of(Cipher::N128T256, Kind::Jolteon, 14, 262080, 524272);
     }
     Named::Unknown
 }

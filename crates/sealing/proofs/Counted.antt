@@ -1,20 +1,23 @@
 -- What a call that was worked tells of its rounds: the sum over its list of block calls, and the formula of the lengths of header and body.
 -- Assumes nothing.
 use mathlib.Core.Path.{_≡_, refl, sym, ap, _∙_}
-use Prim.Native.Nat.{ℕ, _-_}
+use Prim.Native.Nat.{ℕ, _+_, _-_, _*_}
 use mathlib.Core.Logic.{⊎-elim}
-use mathlib.Core.Bool.{Bool, true, false}
+use mathlib.Core.Bool.{Bool, true, false, _&&_, cond, true≢false}
 use mathlib.Core.List.{List}
 use lib.ListN.{length}
 use borrow.Author.Tests.{ltb-false}
 use Rattle.cells.proofs.Choice.{either}
 use Rattle.ciphers.specs.Ciphers.{blockOf}
-use Rattle.states.specs.Modes.{roundsOf}
+use Rattle.modes.specs.Blocks.{none, beforeLast}
+use Rattle.modes.specs.Rounds.{blocks, headBlocks, roundsBy}
+use Rattle.modes.proofs.Rounds.{flat}
+use Rattle.states.specs.Modes.{takesBlank, pricesOf, roundsOf}
 use Rattle.schemes.specs.declared.Scheme.{Scheme}
 use Rattle.schemes.specs.declared.Named.the-variants.{Known}
 use Rattle.schemes.specs.Schemes.{schemeOf, Under}
-use Rattle.schemes.specs.Checks.{bodyIn, checked}
-use Rattle.schemes.proofs.Passed.{check-long}
+use Rattle.schemes.specs.Checks.{blank, bodyIn, checked}
+use Rattle.schemes.proofs.Passed.{check-long, check-passed}
 use Rattle.schemes.proofs.Table.{of-named}
 use Rattle.sealing.specs.Calls.{Told, done, forged, opened, sealRounds, openRounds, sealUnder, openUnder}
 use Rattle.sealing.specs.Numbers.{answered, Worked}
@@ -73,3 +76,35 @@ same-rounds scheme opens opens′ key nonce header input room key′ nonce′ he
     let (s, known, r) = worked-rounds scheme key nonce header input room opens w in
     let r′ = of-named _ scheme s known (worked-rounds scheme key′ nonce′ header′ input′ room′ opens′ w′) in
     r ∙ (λ i. roundsOf (s .kind) (s .cipher) (h i) (b s known i)) ∙ sym r′
+
+-- ---- under a mode that has no run for an empty header and an empty body
+
+-- where not both are empty, the header's blocks are all there are
+heads : (t b h : Bool) (x y : ℕ) → t ≡ false → cond t false (cond b h false) ≡ false → cond (b && h) x y ≡ y
+heads true b h x y e n = absurd (true≢false e)
+heads false true true x y e n = absurd (true≢false n)
+heads false true false x y e n = refl
+heads false false h x y e n = refl
+
+pub by-lengths : (scheme : ℕ) (s : Scheme) → schemeOf scheme ≡ Known s → takesBlank (s .kind) ≡ false → (key nonce header input room : List ℕ) (opens : Bool)
+    → Worked (answered opens scheme key nonce header input room .number)
+    → let n = blockOf (s .cipher) in
+    let p = pricesOf (s .kind) (s .cipher) in
+    let body = bodyIn opens s (length input) in
+    answered opens scheme key nonce header input room .rounds
+    ≡ blocks n (length header) * p .head + cond (none body) 0 (beforeLast n body * p .block + p .last)
+unfolding roundsOf roundsBy headBlocks blank
+by-lengths scheme s known none-there key nonce header input room opens w =
+    let body = bodyIn opens s (length input) in
+    let passed = check-passed s _ _ _ _ _ _ _ (of-named _ scheme s known (worked-check scheme key nonce header input room opens w)) in
+    let p = pricesOf (s .kind) (s .cipher) in
+    let n = blockOf (s .cipher) in
+    of-named _ scheme s known (worked-rounds scheme key nonce header input room opens w)
+    ∙ ap (λ (k : ℕ). k * p .head + cond (none body) 0 (beforeLast n body * p .block + p .last))
+    (heads (takesBlank (s .kind)) (none body) (none (length header)) 1 (blocks n (length header)) none-there (passed .some))
+
+-- the last block costs what the others do
+pub flat-some : (n one both header body : ℕ)
+    → blocks n header * one + cond (none body) 0 (beforeLast n body * both + both) ≡ blocks n header * one + blocks n body * both
+unfolding blocks
+flat-some n one both header body = ap (λ (k : ℕ). blocks n header * one + k) (flat (none body) (beforeLast n body) both)

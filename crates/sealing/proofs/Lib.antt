@@ -1,4 +1,5 @@
 pub mod Admitted
+mod Alike
 mod Answers
 mod Budgets
 mod Counted

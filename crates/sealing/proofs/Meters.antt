@@ -4,39 +4,29 @@
 --     seal-rounds-4 .. -7           the rounds, by the lengths alone
 -- Demand 3 is Demands.antt, for every scheme of the table; that within the limits no two blocks of a record have one tweak, crates/schemes
 -- (proofs/Tweaks.antt). Assumes nothing.
-use mathlib.Core.Path.{_≡_, refl, ap, _∙_}
+use mathlib.Core.Path.{_≡_, refl, _∙_}
 use Prim.Native.Nat.{ℕ, _+_, _-_, _*_, _≤_, _<_}
 use mathlib.Core.Logic.{inl}
-use mathlib.Core.Bool.{Bool, true, false, _&&_, cond, true≢false}
+use mathlib.Core.Bool.{true, false, cond}
 use mathlib.Core.List.{List}
 use lib.ListN.{length}
-use Rattle.ciphers.specs.declared.Cipher.{Cipher}
 use Rattle.ciphers.specs.declared.Cipher.the-variants.{N64T192, N128T256}
-use Rattle.ciphers.specs.Ciphers.{blockOf}
-use Rattle.ciphers.proofs.Laws.{block-some}
 use Rattle.forkskinny.specs.Calls.{wants, forkRounds}
 use Rattle.modes.specs.Blocks.{none, beforeLast}
-use Rattle.modes.specs.Jolteon.{jolteonOwn, jolteon}
-use Rattle.modes.specs.Mode.{Opened, sealRun, openRun}
-use Rattle.modes.specs.Rounds.{total, blocks, headBlocks, roundsBy}
-use Rattle.modes.specs.Umbreon.{umbreonOwn, umbreon}
-use Rattle.modes.proofs.EeveeShort.{short-seal-same, short-open-same, short-seal-calls, short-open-calls}
-use Rattle.modes.proofs.Rounds.{flat}
-use Rattle.states.specs.declared.Kind.the-variants.{Umbreon, Jolteon}
-use Rattle.states.specs.Modes.{takesBlank, pricesOf, roundsOf}
-use Rattle.states.specs.Skinny.{skinny, costOf}
-use Rattle.schemes.specs.declared.Scheme.{Scheme}
-use Rattle.schemes.specs.declared.Named.the-variants.{Known}
-use Rattle.schemes.specs.Checks.{blank, bodyIn, checkOf, sealCheck, openCheck}
+use Rattle.modes.specs.Jolteon.{jolteon}
+use Rattle.modes.specs.Mode.{sealRun, openRun}
+use Rattle.modes.specs.Rounds.{blocks}
+use Rattle.modes.specs.Umbreon.{umbreon}
+use Rattle.states.specs.Skinny.{skinny}
 use Rattle.schemes.specs.Schemes.{scheme4, scheme5, scheme6, scheme7, schemeOf}
-use Rattle.schemes.proofs.Passed.{check-passed, not-blank}
-use Rattle.schemes.proofs.Table.{named-4, named-5, named-6, named-7, of-named}
-use Rattle.sealing.specs.Calls.{Told, done, judged, passed, sealRounds, openRounds, sealUnder, openUnder, sealOf, openOf}
+use Rattle.schemes.proofs.Passed.{not-blank}
+use Rattle.schemes.proofs.Table.{named-4, named-5, named-6, named-7}
+use Rattle.sealing.specs.Calls.{done, judged, sealRounds, openRounds, sealOf, openOf}
 use Rattle.sealing.specs.Demands.{Admitted}
-use Rattle.sealing.specs.Numbers.{answered, Worked}
+use Rattle.sealing.specs.Numbers.{Worked}
 use Rattle.sealing.proofs.Admitted.{seal-admitted, open-admitted}
-use Rattle.sealing.proofs.Counted.{worked-check, worked-rounds}
-use Rattle.sealing.proofs.Known.{seal-known, open-known}
+use Rattle.sealing.proofs.Alike.{seal-alike, open-alike}
+use Rattle.sealing.proofs.Counted.{by-lengths, flat-some}
 
 -- ---- demand 2: what is computed is Umbreon and Jolteon over ForkSkinny as published
 
@@ -88,34 +78,6 @@ module _ (key nonce header run room : List ℕ) where
 
 -- ---- bodies of at most one block: schemes 4 and 5, and 6 and 7, answer alike in everything
 
-module _ (c : Cipher) (ν h b : ℕ) (key nonce header room : List ℕ) where
-  abbrev n : ℕ
-  n = blockOf c
-
-  abbrev umbreonBy : Scheme
-  umbreonBy = record { cipher = c; kind = Umbreon; key = 16; nonce = ν; header = h; body = b }
-
-  abbrev jolteonBy : Scheme
-  jolteonBy = record { cipher = c; kind = Jolteon; key = 16; nonce = ν; header = h; body = b }
-
-  seal-alike : (body : List ℕ) → length body ≤ n → sealUnder umbreonBy key nonce header body room ≡ sealUnder jolteonBy key nonce header body room
-  unfolding sealUnder checkOf blank umbreon jolteon
-  seal-alike body l =
-      let F = skinny c key in
-      let run = short-seal-same n (block-some c) F nonce (umbreonOwn n F nonce) (jolteonOwn n F nonce) header body l in
-      let calls = short-seal-calls n (block-some c) F nonce (umbreonOwn n F nonce) (jolteonOwn n F nonce) header body l in
-      let check = sealCheck umbreonBy (length key) (length nonce) (length header) (length body) (length room) in
-      (λ i. passed check (done (total (costOf c) (calls i)) (length body + n) (run i) room) room)
-
-  open-alike : (run : List ℕ) → length run ≤ n + n → openUnder umbreonBy key nonce header run room ≡ openUnder jolteonBy key nonce header run room
-  unfolding openUnder checkOf blank umbreon jolteon
-  open-alike run l =
-      let F = skinny c key in
-      let body = short-open-same n (block-some c) F nonce (umbreonOwn n F nonce) (jolteonOwn n F nonce) header run l in
-      let calls = short-open-calls n (block-some c) F nonce (umbreonOwn n F nonce) (jolteonOwn n F nonce) header run l in
-      let check = openCheck umbreonBy (length key) (length nonce) (length header) (length run) (length room) in
-      (λ i. passed check (judged (total (costOf c) (calls i)) (body i) (length run - n) room) room)
-
 module _ (key nonce header : List ℕ) where
   pub seal-as-sibling : (body room : List ℕ)
       → (length body ≤ 8 → sealOf 4 key nonce header body room ≡ sealOf 5 key nonce header body room)
@@ -137,36 +99,6 @@ module _ (key nonce header : List ℕ) where
 
 -- ---- rounds: so much for each block of the header, none where it is empty; Umbreon so much for each block of the body, Jolteon for each but the last
 -- what a header's costs, and for the last what Umbreon's does
-
--- where not both are empty, the header's blocks are all there are
-heads : (t b h : Bool) (x y : ℕ) → t ≡ false → cond t false (cond b h false) ≡ false → cond (b && h) x y ≡ y
-heads true b h x y e n = absurd (true≢false e)
-heads false true true x y e n = absurd (true≢false n)
-heads false true false x y e n = refl
-heads false false h x y e n = refl
-
-by-lengths : (scheme : ℕ) (s : Scheme) → schemeOf scheme ≡ Known s → takesBlank (s .kind) ≡ false → (key nonce header input room : List ℕ) (opens : Bool)
-    → Worked (answered opens scheme key nonce header input room .number)
-    → let n = blockOf (s .cipher) in
-    let p = pricesOf (s .kind) (s .cipher) in
-    let body = bodyIn opens s (length input) in
-    answered opens scheme key nonce header input room .rounds
-    ≡ blocks n (length header) * p .head + cond (none body) 0 (beforeLast n body * p .block + p .last)
-unfolding roundsOf roundsBy headBlocks blank
-by-lengths scheme s known none-there key nonce header input room opens w =
-    let body = bodyIn opens s (length input) in
-    let passed = check-passed s _ _ _ _ _ _ _ (of-named _ scheme s known (worked-check scheme key nonce header input room opens w)) in
-    let p = pricesOf (s .kind) (s .cipher) in
-    let n = blockOf (s .cipher) in
-    of-named _ scheme s known (worked-rounds scheme key nonce header input room opens w)
-    ∙ ap (λ (k : ℕ). k * p .head + cond (none body) 0 (beforeLast n body * p .block + p .last))
-    (heads (takesBlank (s .kind)) (none body) (none (length header)) 1 (blocks n (length header)) none-there (passed .some))
-
--- the last block costs what the others do
-flat-some : (n one both header body : ℕ)
-    → blocks n header * one + cond (none body) 0 (beforeLast n body * both + both) ≡ blocks n header * one + blocks n body * both
-unfolding blocks
-flat-some n one both header body = ap (λ (k : ℕ). blocks n header * one + k) (flat (none body) (beforeLast n body) both)
 
 module _ (key nonce header : List ℕ) where
   module _ (body room : List ℕ) where
