@@ -41,12 +41,12 @@ const PANEL_WIDTH: f64 = 360.0;
 const PANEL_TOP: f64 = 64.0;
 const PANEL_BOTTOM: f64 = 394.0;
 /// Where the samples of the legends begin from the left.
-const SAMPLES: [f64; 4] = [24.0, 254.0, 484.0, 714.0];
+const SAMPLES: [f64; 4] = [24.0, 260.0, 496.0, 732.0];
 
 const TITLE: &str = "font-size=\"20\" font-weight=\"bold\" fill=\"#111827\"";
 const HEADING: &str = "font-size=\"16\" font-weight=\"bold\" fill=\"#111827\"";
 const WORDS: &str = "font-size=\"13\" fill=\"#111827\"";
-const NOTE: &str = "font-size=\"13\" fill=\"#4b5563\"";
+const NOTE: &str = "font-size=\"12\" fill=\"#4b5563\"";
 
 /// The scale of all panels, here of one in the row that begins at `row` from the
 /// top.
@@ -111,8 +111,8 @@ fn draw_panel(
 
 /// A short line, and behind it what lines of its look show.
 fn draw_sample(picture: &mut Picture, (left, y): Place, looks: &str, words: &str) {
-    picture.line((left, y), (left + 30.0, y), looks);
-    picture.text((left + 38.0, y + 4.5), WORDS, words);
+    picture.line((left, y), (left + 24.0, y), looks);
+    picture.text((left + 30.0, y + 4.5), WORDS, words);
 }
 
 /// The title, what stands under it, and which colour is which side.
