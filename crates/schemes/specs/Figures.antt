@@ -28,8 +28,8 @@ opening scheme header run room number =
 
 -- a scheme with blocks of n bytes that has no run for an empty header and an empty body takes a header of h bytes and a body of b, and
 -- refuses one more; where both are empty it is 10, behind 4 and 5
-abbrev eevee : (scheme n h b : ℕ) → List Figure
-eevee scheme n h b =
+abbrev bounds : (scheme n h b : ℕ) → List Figure
+bounds scheme n h b =
     seals scheme 0 b (b + n) 0
     ∷ seals scheme 0 (b + 1) (b + 1 + n) 8
     ∷ seals scheme h 0 n 0
@@ -102,10 +102,10 @@ figures =
     ∷ opening 3 16 21 4 5
     ∷ opening 3 16 21 5 0
     -- schemes 4 and 5 take a header of 131,040 bytes and a body of 262,136, schemes 6 and 7 one of 262,080 and one of 524,272
-    ∷ eevee 4 8 131040 262136
-    ++ eevee 5 8 131040 262136
-    ++ eevee 6 16 262080 524272
-    ++ eevee 7 16 262080 524272
+    ∷ bounds 4 8 131040 262136
+    ++ bounds 5 8 131040 262136
+    ++ bounds 6 16 262080 524272
+    ++ bounds 7 16 262080 524272
 
 -- ---- its two sides
 
