@@ -21,6 +21,7 @@ WORDS = {
     "seal": job_words("--body"),
     "open": job_words("--sealed", "--body"),
     "run": Words(most=sys.maxsize),
+    "differ": Words(("--scheme",), (), (("--scheme",),), 2, "; differ takes two runs, each in quotes if it has spaces", 2),
     "explain": Words(most=1, why="; explain takes one number"),
 }
 
@@ -70,6 +71,10 @@ def parser():
     run = add_command(kinds, "run", "run job sheets and raw jobs", helps.RUN, helps.SHEET)
     run.add_argument("files", metavar="FILE", nargs="+", help="a sheet, or a raw job if its name ends in .job")
     run.set_defaults(action=commands.run_files)
+    differ = add_command(kinds, "differ", "compare two sealed runs block by block", helps.DIFFER, helps.DIFFER_MORE)
+    differ.add_argument("--scheme", metavar="N", required=True, action=Once, help="1 to 7, under which both were sealed")
+    differ.add_argument("runs", metavar="RUN", nargs=2, help="@FILE, or @- for standard input, or hex")
+    differ.set_defaults(action=commands.differ_runs)
     explain = add_command(kinds, "explain", "say what an answer number means", helps.EXPLAIN, helps.EXPLAIN_EXAMPLE)
     explain.add_argument("number", metavar="NUMBER", nargs="?", help="0 to 10; zeros before it don't count")
     explain.set_defaults(action=commands.explain_number)

@@ -5,11 +5,14 @@ import os
 import sys
 import textwrap
 
+import cuts
+import differ
 import explain
 import jobs
 import sealjob
 from files import NewFile
 from jobs import count
+from schemes import SCHEMES
 from tasks import heading, outcome, read_tasks, tally, wanted
 from trouble import Trouble, complain, placed, plain
 from values import INPUT, bytes_of, number_of
@@ -129,6 +132,32 @@ def run_files(args):
     found = [run_task(task, program) for task in given]
     print(tally(found))
     return 0 if set(found) <= {"as expected", "done"} else 1
+
+
+def known_scheme(text):
+    number = number_of(text, 255)
+    if number not in SCHEMES:
+        raise Trouble(f"{number} is no scheme; there are 1 to {max(SCHEMES)}")
+    return number, SCHEMES[number]
+
+
+def differ_runs(args):
+    """It asks for no key and opens nothing. The exit status is that of cmp and diff."""
+    number, scheme = placed("--scheme", known_scheme, args.scheme)
+    if args.runs.count(INPUT) > 1:
+        raise Trouble("both runs would read standard input, which only one value can")
+    most = scheme.body + scheme.block
+    one, other = (
+        placed(f"the {which} run", lambda text=text: cuts.cut(scheme, number, bytes_of(text, most=most, whose=f"a run of scheme {number}")))
+        for which, text in zip(("first", "second"), args.runs)
+    )
+    line("scheme", f"{number}, {scheme.mode}: blocks of {scheme.block} bytes")
+    words("runs", cuts.sizes(one, other))
+    for verdict, piece in cuts.rows(one, other):
+        line(verdict, piece)
+    words("meaning", differ.meaning(scheme.mode, one, other))
+    words("beware", differ.BEWARE)
+    return 0 if one.run == other.run else 1
 
 
 def explain_number(args):

@@ -28,9 +28,9 @@ exit status:
 """
 
 ABOUT = """\
-Seals and opens records by hand with the proved program sealjob, runs job sheets, and says in
-words what an answer means. `tools/desk COMMAND --help` says more of a command. The first job
-that is run has sealjob proved and built, which takes some six minutes.
+Seals and opens records by hand with the proved program sealjob, runs job sheets, compares sealed
+runs block by block, and says in words what an answer means. `tools/desk COMMAND --help` says more
+of a command. The first job that is run has sealjob proved and built, which takes some six minutes.
 """
 
 EXAMPLES = """\
@@ -89,6 +89,22 @@ exit status:
 
 example:
   tools/desk run examples/jobs/*.sheet
+"""
+
+DIFFER = """\
+Cuts two sealed runs of one scheme into their blocks, shows which differ, and says what that can
+mean of the bodies, if both were sealed under one key, nonce and header. It needs no key and opens
+nothing: docs/CHANGES.md says what is proved of such runs, and what is not.
+"""
+
+DIFFER_MORE = """\
+exit status:
+  0  the runs are equal      1  they differ      2  bad input; a sentence on standard error says what
+
+example, two drafts of nineteen limits; the tenth was replaced:
+  tools/desk differ --scheme 1 \\
+      9ec6ee48a26b3bc43b107698546bc3ff3f5ebc590fb623bc16fcf4 \\
+      9ec6ee48a26b3bc4ac3acf54be19510a8a5b0ad63f7db20d16fcf4
 """
 
 EXPLAIN = """\

@@ -1,11 +1,16 @@
-"""The table of schemes: sizes in bytes."""
+"""The table of schemes: modes, and sizes in bytes."""
 from collections import namedtuple
 
 KEY = 16
 
-Scheme = namedtuple("Scheme", "block nonce")
+Scheme = namedtuple("Scheme", "mode block nonce body")  # body: its longest
 
 SCHEMES = {
-    1: Scheme(8, 6), 2: Scheme(16, 14), 3: Scheme(16, 15),
-    4: Scheme(8, 6), 5: Scheme(8, 6), 6: Scheme(16, 14), 7: Scheme(16, 14),
+    1: Scheme("PAEF", 8, 6, 65528),
+    2: Scheme("PAEF", 16, 14, 131056),
+    3: Scheme("SAEF", 16, 15, 1048576),
+    4: Scheme("Umbreon", 8, 6, 262136),
+    5: Scheme("Jolteon", 8, 6, 262136),
+    6: Scheme("Umbreon", 16, 14, 524272),
+    7: Scheme("Jolteon", 16, 14, 524272),
 }

@@ -27,8 +27,8 @@ class Words:
     """What a command takes: options with a value, those of them that it needs (one of each group), options without a value, and how many
     other words."""
 
-    def __init__(self, values=(), flags=(), needed=(), most=0, why=""):
-        self.values, self.flags, self.needed, self.most, self.why = values, flags, needed, most, why
+    def __init__(self, values=(), flags=(), needed=(), most=0, why="", least=0):
+        self.values, self.flags, self.needed, self.most, self.why, self.least = values, flags, needed, most, why, least
 
     def check(self, words):
         """What stands behind --help does not matter."""
@@ -62,6 +62,8 @@ class Words:
     def check_others(self, others):
         if len(others) > self.most:
             raise Trouble(f"'{plain(others[self.most][:40])}' is one word too many{self.why}")
+        if len(others) < self.least:
+            raise Trouble(f"{'a word is' if len(others) + 1 == self.least else 'words are'} missing{self.why}")
 
     def check_missing(self, given):
         missing = [group[0] for group in self.needed if given.isdisjoint(group)]

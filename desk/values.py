@@ -40,20 +40,20 @@ def hex_bytes(text):
     return b"".join(group_bytes(group.group(), group.start() + 1) for group in groups)
 
 
-def bytes_of(text, folder=""):
+def bytes_of(text, folder="", most=MOST, whose="a section of a job"):
     """@FILE is a file's bytes; its name counts from the folder."""
     if text == "@":
         raise Trouble("'@' without the name of a file")
     if text == INPUT:
-        return read_input(MOST)
+        return read_input(most)
     if text.startswith("@"):
-        return read_file(os.path.join(folder, text[1:]), MOST)
+        return read_file(os.path.join(folder, text[1:]), most)
     try:
         data = hex_bytes(text)
     except Trouble as trouble:
         if os.path.isfile(os.path.join(folder, text)):
             raise Trouble(f"{trouble}; a file of that name is there, whose bytes are @{plain(text)}") from None
         raise
-    if len(data) > MOST:
-        raise Trouble(f"{len(data):,} bytes; a section of a job has {MOST:,} at most")
+    if len(data) > most:
+        raise Trouble(f"{len(data):,} bytes; {whose} has {most:,} at most")
     return data

@@ -83,6 +83,8 @@ class Help(support.DeskTest):
         sealed = self.done(*seal).split()[3]
         self.assertEqual(opening[-1], sealed)
         self.assertIn("body     24282c\n", self.done(*opening))
+        (differ,) = self.examples("differ")
+        self.assertIn("block 2 differs, and no other before the last.", " ".join(self.done(*differ, status=1, program="false").split()))
         (explain,) = self.examples("explain")
         self.done(*explain, program="false")
         self.assertEqual(self.examples("run"), [["run", "examples/jobs/*.sheet"]])

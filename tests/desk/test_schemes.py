@@ -79,5 +79,5 @@ class Schemes(unittest.TestCase):
     def test_desk(self):
         self.assertEqual(by_scheme(explain.HEADER_LIMIT), self.headers)
         self.assertEqual(by_scheme(explain.BODY_LIMIT), self.bodies)
-        sizes = {name: (scheme.block, scheme.nonce) for name, scheme in self.schemes.items()}
-        self.assertEqual(sizes, {name: tuple(scheme) for name, scheme in schemes.SCHEMES.items()})
+        told = {name: scheme._replace(mode=scheme.mode.upper()) for name, scheme in schemes.SCHEMES.items()}
+        self.assertEqual(told, {name: (scheme.mode, scheme.block, scheme.nonce, scheme.body) for name, scheme in self.schemes.items()})

@@ -66,7 +66,7 @@ class Input(support.DeskTest):
 
     def test_commands(self):
         self.complains("desk: '--open' is no option of the desk's; open may be meant;", "--open")
-        self.complains("desk: 'unseal' is no command; seal may be meant; the first word is seal, open, run or explain;", "unseal")
+        self.complains("desk: 'unseal' is no command; seal may be meant; the first word is seal, open, run, differ or explain;", "unseal")
         self.complains("desk: '--quiet' is no option of the desk's; the first word is", "--quiet", *SEAL)
         self.complains("desk: '' is no command", "")
 
