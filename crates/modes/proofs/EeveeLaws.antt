@@ -43,7 +43,7 @@ module _ (n ν : ℕ) (F : Fork) (L : ForkLaws n F) (e : ν + 2 ≡ n) (nonce : 
 
   half1-block : (v : ℕ) (x : List ℕ) → Block n x → Block n (bodyHalf n F nonce 1 v x)
   unfolding bodyHalf
-  half1-block v x b = L .second _ x (body-tweak-block v) b
+  half1-block v x b = L .undo-second _ (body-tweak-block v) .to x b
 
   -- masked by m, and from half 0 the mask, added to the input that was found and then again, is gone
   masked-undo : (v : ℕ) (m : List ℕ) → Block n m → Undo n (λ x. bodyHalf n F nonce 0 v (x ⊕ m)) (λ c. bodyInput n F nonce v c ⊕ m)

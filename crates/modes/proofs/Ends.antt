@@ -13,6 +13,7 @@ use Rattle.modes.specs.Mode.{Mode, Opened, join, endBlock, endTag, judge
 use Rattle.modes.specs.Lawful.{Lawful}
 use Rattle.modes.proofs.Bytes.{block-take, block-drop, block-size, block-append}
 use Rattle.modes.proofs.Bytes.{pad-block, take-pad, pad-rest, pad-judged, same-refl, same-eq}
+use Rattle.modes.proofs.Undo.{undo-one}
 
 -- ---- a block a and bytes t, in one order or the other
 
@@ -55,6 +56,24 @@ module _ {St : Type 0} (n : ℕ) (M : Mode St) (Ok : St → Type 0) (L : Lawful 
       let p : Block n (pad n x) = pad-block n x b in
       let t : Block n (M .tag f s (pad n x)) = L .tag-block f s _ ok p in
       join-block (M .blockFirst) n (length x) _ _ (L .undo-fin f s ok .to _ p) (block-take (length x) _ (omega (arith, t .long)) (t .bytes))
+
+  -- the block of an end tells the last block, and so the whole end
+  block-of-end : (s : St) (x : List ℕ) (r : ℕ) → Ok s → Bytes x → length x ≡ r → r ≤ n
+      → endBlock (M .blockFirst) n r (sealLast n M s x) ≡ M .fin (full n r) s (pad n x)
+  unfolding sealLast
+  block-of-end s x r ok b e h =
+      let p : Block n (pad n x) = pad-block n x b in
+      let t : Block n (M .tag (full n (length x)) s (pad n x)) = L .tag-block (full n (length x)) s _ ok p in
+      block-join (M .blockFirst) n r _ _ (L .undo-fin (full n (length x)) s ok .to _ p .long) (length-take-le (length x) _ (omega (arith, t .long)) ∙ e)
+      ∙ ap (λ (k : ℕ). M .fin (full n k) s (pad n x)) e
+
+  pub end-told : (s : St) (x y : List ℕ) (r : ℕ) → Ok s → Bytes x → Bytes y → length x ≡ r → length y ≡ r → r ≤ n
+      → endBlock (M .blockFirst) n r (sealLast n M s x) ≡ endBlock (M .blockFirst) n r (sealLast n M s y)
+      → sealLast n M s x ≡ sealLast n M s y
+  end-told s x y r ok hx hy lx ly h q =
+      let padded : pad n x ≡ pad n y = undo-one (L .undo-fin (full n r) s ok) (pad-block n x hx) (pad-block n y hy)
+      (sym (block-of-end s x r ok hx lx h) ∙ q ∙ block-of-end s y r ok hy ly h) in
+      ap (sealLast n M s) (sym (take-pad n x (omega arith)) ∙ ap₂ take (lx ∙ sym ly) padded ∙ take-pad n y (omega arith))
 
   -- opening an end whose last block had r bytes
   openAt : St → ℕ → List ℕ → Opened

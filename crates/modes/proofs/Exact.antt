@@ -51,7 +51,7 @@ module _ {St : Type 0} (n : ℕ) (M : Mode St) (Ok : St → Type 0) (L : Lawful 
       let w = cut (length a) (omega arith) in
       walk-from-ok (beforeLast n (length a)) noM s a (w .0) ok (record { long = w .1; bytes = h })
 
-  headed-ok : (noM : Bool) (a : List ℕ) → Bytes a → Ok (headed n M noM a)
+  pub headed-ok : (noM : Bool) (a : List ℕ) → Bytes a → Ok (headed n M noM a)
   headed-ok true a h = rw (headed-none n M a) (walk-ok true (M .start) a (L .start-ok) h)
   headed-ok false [] h = rw (headed-skip n M [] refl) (L .start-ok)
   headed-ok false (x ∷ xs) h = rw (headed-some n M false (x ∷ xs) (omega arith)) (walk-ok false (M .start) (x ∷ xs) (L .start-ok) h)

@@ -1,12 +1,17 @@
 pub mod Bytes
+pub mod Cut
 pub mod EeveeLaws
 pub mod EeveeOnly
 pub mod EeveeShort
 pub mod EeveeTweaks
 pub mod Ends
 pub mod Exact
+pub mod Fronts
 pub mod Only
+pub mod PaefChanges
+pub mod PaefCut
 pub mod PaefLaws
+pub mod PaefSum
 pub mod PaefTweaks
 pub mod Rest
 pub mod Rounds

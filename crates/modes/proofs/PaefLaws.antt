@@ -16,9 +16,13 @@ pub record SumOk (n : ℕ) (s : Sum) : Type 0 where
   pub block : Block n (s .sum)
 
 module _ (n ν : ℕ) (F : Fork) (L : ForkLaws n F) (e : ν + 2 ≡ n) (nonce : List ℕ) (hn : Block ν nonce) where
+  pub number-block : (flag number : ℕ) → Block n (paefTweak nonce flag number)
+  unfolding paefTweak
+  number-block flag number = block-size (block-append hn (be16-block (flag * 8192 + number))) e
+
   tweak-block : (flag : ℕ) (s : Sum) → Block n (sumTweak n F nonce flag s)
-  unfolding sumTweak paefTweak
-  tweak-block flag s = block-size (block-append hn (be16-block (flag * 8192 + s .number))) e
+  unfolding sumTweak
+  tweak-block flag s = number-block flag (s .number)
 
   head-block : (flag : ℕ) (s : Sum) (x : List ℕ) → SumOk n s → Block n x → Block n (headSum n F nonce flag s x)
   unfolding headSum sumHalf
@@ -32,10 +36,10 @@ module _ (n ν : ℕ) (F : Fork) (L : ForkLaws n F) (e : ν + 2 ≡ n) (nonce : 
         start-ok = record { block = block-zeros n };
         head-ok = λ s x ok b. record { block = head-block 0 s x ok b };
         last-ok = λ noM f s x ok b. record { block = head-block (paefHead f) s x ok b };
-        next-ok = λ s x ok b. record { block = xor-block n _ _ (ok .block) (L .second _ x (tweak-block 4 s) b) };
+        next-ok = λ s x ok b. record { block = xor-block n _ _ (ok .block) (L .undo-second _ (tweak-block 4 s) .to x b) };
         undo = λ s ok. L .undo _ (tweak-block 4 s);
         undo-fin = λ f s ok. undo-then (L .undo _ (tweak-block (paefBody f) s)) (undo-xor (ok .block));
-        tag-block = λ f s x ok b. L .second _ x (tweak-block (paefBody f) s) b;
+        tag-block = λ f s x ok b. L .undo-second _ (tweak-block (paefBody f) s) .to x b;
         alone-block = λ s ok. ok .block;
         next-is = λ s c ok b.
             ap (λ (z : List ℕ). record { sum = s .sum ⊕ z; number = s .number + 1 }) (L .other-is _ c (tweak-block 4 s) b);

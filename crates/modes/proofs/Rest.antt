@@ -2,7 +2,7 @@
 -- block; and how a whole one begins. Assumes nothing.
 use mathlib.Core.Path.{_≡_, refl, sym, ap, _∙_}
 use Prim.Native.Nat.{ℕ, zero, suc, _+_, _-_, _*_, _/_, _%_, _≤_, _<_}
-use native.Mathlib.Nat.{div-eq-of-lt, div-eq-sub-div, div-add-mod', mod-lt}
+use native.Mathlib.Nat.{suc-mul, div-eq-of-lt, div-eq-sub-div, le-div-iff-mul-le, div-add-mod', mod-lt}
 use native.Mathlib.Numerals.{add-one}
 use native.Mathlib.Omega.{arith}
 use mathlib.Core.Bool.{Bool, true, false}
@@ -32,6 +32,18 @@ before-last-cut n l p h =
     let q : (l - 1) / n * n + (l - 1) % n ≡ l - 1 = div-add-mod' (l - 1) n in
     let k : (l - 1) % n < n = mod-lt (l - 1) p in
     (suc ((l - 1) % n), omega arith, omega arith, omega arith)
+
+-- k whole blocks and more: k stand before the last one
+pub before-last-of : (n k l : ℕ) → zero < n → k * n < l → k ≤ beforeLast n l
+unfolding beforeLast
+before-last-of n k l p h = le-div-iff-mul-le p .1 (omega arith)
+
+-- block k is not the last: behind it there is more
+pub before-last-behind : (n k l : ℕ) → zero < n → k < beforeLast n l → suc k * n < l
+unfolding beforeLast
+before-last-behind n k l p h =
+    let q : suc k * n ≤ l - 1 = le-div-iff-mul-le p .0 h in
+    omega (arith, suc-mul k n)
 
 module _ {St : Type 0} (n : ℕ) (M : Mode St) (p : zero < n) where
   -- ---- the last block, or one more

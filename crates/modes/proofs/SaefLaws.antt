@@ -54,7 +54,7 @@ module _ (n ν : ℕ) (F : Fork) (L : ForkLaws n F) (e : ν + 1 ≡ n) (nonce : 
 
   half1-block : (flag : ℕ) (s : Mask) (x : List ℕ) → flag < 8 → MaskOk n s → Block n x → Block n (maskHalf n F nonce 1 flag s x)
   unfolding maskHalf
-  half1-block flag s x h ok b = L .second _ _ (tweak-block flag s h) (xor-block n x _ b (ok .block))
+  half1-block flag s x h ok b = L .undo-second _ (tweak-block flag s h) .to _ (xor-block n x _ b (ok .block))
 
   mask-undo : (flag : ℕ) (s : Mask) → flag < 8 → MaskOk n s
       → Undo n (λ x. maskHalf n F nonce 0 flag s x ⊕ s .delta) (λ c. maskInput n F nonce flag s c ⊕ s .delta)

@@ -43,9 +43,9 @@ pub record Undo (n : ℕ) (f g : List ℕ → List ℕ) : Type 0 where
   pub there : (x : List ℕ) → Block n x → g (f x) ≡ x
   pub again : (x : List ℕ) → Block n x → f (g x) ≡ x
 
--- over blocks and tweaks of n bytes: half 0 and its input undo each other, half 1 is a block, and the other half from half 0 is
--- half 1 of the input
+-- over blocks and tweaks of n bytes: half 0 and the input from it undo each other, half 1 and the input from it too, and the other half
+-- from half 0 is half 1 of the input
 pub record ForkLaws (n : ℕ) (F : Fork) : Type 0 where
   pub undo : (tweak : List ℕ) → Block n tweak → Undo n (F .half 0 tweak) (F .input 0 tweak)
-  pub second : (tweak x : List ℕ) → Block n tweak → Block n x → Block n (F .half 1 tweak x)
+  pub undo-second : (tweak : List ℕ) → Block n tweak → Undo n (F .half 1 tweak) (F .input 1 tweak)
   pub other-is : (tweak x : List ℕ) → Block n tweak → Block n x → F .other 0 tweak x ≡ F .half 1 tweak (F .input 0 tweak x)

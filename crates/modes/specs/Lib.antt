@@ -1,4 +1,5 @@
 pub mod Blocks
+pub mod Changes
 pub mod Eevee
 pub mod Forkcipher
 pub mod Jolteon

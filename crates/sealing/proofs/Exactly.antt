@@ -25,7 +25,7 @@ use Rattle.states.proofs.Laws.{skinny-laws}
 use Rattle.schemes.specs.declared.Scheme.{Scheme}
 use Rattle.schemes.specs.Checks.{blank}
 use Rattle.schemes.proofs.Table.{named-fits}
-use Rattle.sealing.specs.Calls.{Told, done, forged, judged, sealed, opened, sealRounds, openRounds, sealOf, openOf}
+use Rattle.sealing.specs.Calls.{Told, written, done, forged, judged, sealed, opened, sealRounds, openRounds, sealOf, openOf}
 use Rattle.sealing.specs.Demands.{Admitted, SealsTo}
 use Rattle.sealing.proofs.Admitted.{seal-admitted, open-admitted, sealed-fits, opened-fits}
 use Rattle.sealing.proofs.Sums.{seal-sum, open-sum}
@@ -33,7 +33,7 @@ use Rattle.sealing.proofs.Sums.{seal-sum, open-sum}
 -- ---- the modes obey the laws
 
 -- what holds of the states of a mode
-abbrev OkOf : (k : Kind) → ℕ → Carried k → Type 0
+abbrev pub OkOf : (k : Kind) → ℕ → Carried k → Type 0
 OkOf Paef n = SumOk n
 OkOf Saef n = MaskOk n
 OkOf Umbreon n = ChainOk n
@@ -57,7 +57,7 @@ module _ (number : ℕ) (s : Scheme) (key nonce header : List ℕ) (ok : Admitte
   abbrev Ok : Carried (s .kind) → Type 0
   Ok = OkOf (s .kind) n
 
-  lawful : Lawful n M Ok
+  pub lawful : Lawful n M Ok
   lawful =
       mode-lawful (s .kind) (s .cipher) key nonce (s .nonce) (named-fits number s (ok .named) .nonce) (ok .key-fits .bytes) (ok .nonce-fits)
 
@@ -68,6 +68,14 @@ module _ (number : ℕ) (s : Scheme) (key nonce header : List ℕ) (ok : Admitte
   sealed-long body b = sealed-block body b .long
 
   -- ---- what seal writes
+
+  -- where it answers with 0, the run
+  pub seal-written : (body room : List ℕ) → Bytes body → sealOf number key nonce header body room .number ≡ 0
+      → written (sealOf number key nonce header body room) ≡ sealed s key nonce header body
+  seal-written body room b e =
+      let (h, m, r) = sealed-fits number s key nonce header ok body room e in
+      ap written (seal-admitted number s key nonce header ok body room h m r)
+      ∙ take-at (sealed s key nonce header body) (drop (length body + n) room) (length body + n) (sealed-long body b)
 
   module _ (body run : List ℕ) where
     pub long : SealsTo s key nonce header body run → length run ≡ length body + n

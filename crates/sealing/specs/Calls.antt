@@ -3,7 +3,7 @@
 use Prim.Native.Nat.{ℕ, zero, suc, _+_, _-_}
 use mathlib.Core.Bool.{cond}
 use mathlib.Core.List.{List, _++_}
-use lib.ListN.{length, drop, replicate}
+use lib.ListN.{length, take, drop, replicate}
 use Rattle.ciphers.specs.Ciphers.{blockOf}
 use Rattle.prepared.specs.declared.Prepared.{Prepared}
 use Rattle.prepared.specs.Prepared.{keyOf}
@@ -27,6 +27,10 @@ pub record Told : Type 0 where
 
 abbrev pub told : Answer → List ℕ → Told
 told a room = record { number = a .number; length = a .length; room = room; rounds = a .rounds }
+
+-- the output, at the front of the room
+abbrev pub written : Told → List ℕ
+written t = take (t .length) (t .room)
 
 -- 1 to 5, 7, 8 and 10: the room unchanged, and no rounds
 abbrev pub refused : ℕ → List ℕ → Told

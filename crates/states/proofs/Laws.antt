@@ -13,7 +13,7 @@ use Rattle.ciphers.specs.declared.Cipher.the-variants.{N64T192, N128T256}
 use Rattle.ciphers.specs.Ciphers.{widthOf, blockOf, counted}
 use Rattle.forkskinny.specs.ForkSkinny.{half, input, other}
 use Rattle.forkskinny.proofs.Forkcipher as F
-use Rattle.modes.specs.Forkcipher.{ForkLaws}
+use Rattle.modes.specs.Forkcipher.{Undo, ForkLaws}
 use Rattle.modes.proofs.Bytes.{block-take, block-zeros, block-append}
 use Rattle.states.specs.Skinny.{skinny}
 
@@ -92,15 +92,20 @@ module _ (c : Cipher) (key : List ℕ) (hk : Bytes key) (tweak : List ℕ) (ht :
         ∙ ap (half c key tweak 1) (sym (input-wide 0))
         ∙ sym (half-cut 1 (input c key tweak 0 x))
 
+undo-half : (c : Cipher) (key : List ℕ) → Bytes key → (h : ℕ) (tweak : List ℕ) → Block (blockOf c) tweak
+    → Undo (blockOf c) (skinny c key .half h tweak) (skinny c key .input h tweak)
+unfolding skinny
+undo-half c key hk h t ht = record {
+  to = λ x b. half-to c key hk t ht x b h;
+  fro = λ x b. input-to c key hk t ht x b h;
+  there = λ x b. there c key hk t ht x b h;
+  again = λ x b. again c key hk t ht x b h;
+}
+
 pub skinny-laws : (c : Cipher) (key : List ℕ) → Bytes key → ForkLaws (blockOf c) (skinny c key)
 unfolding skinny
 skinny-laws c key hk = record {
-  undo = λ t ht. record {
-    to = λ x b. half-to c key hk t ht x b 0;
-    fro = λ x b. input-to c key hk t ht x b 0;
-    there = λ x b. there c key hk t ht x b 0;
-    again = λ x b. again c key hk t ht x b 0;
-  };
-  second = λ t x ht b. half-to c key hk t ht x b 1;
+  undo = undo-half c key hk 0;
+  undo-second = undo-half c key hk 1;
   other-is = λ t x ht b. ap (take (blockOf c)) (other-of-input c key hk t ht x b);
 }
