@@ -11,6 +11,7 @@
 pub mod blocks;
 pub mod calls;
 pub mod cells;
+pub mod changes;
 pub mod eevee;
 pub mod entries;
 pub mod forged;

@@ -4,6 +4,7 @@
 //! library's rounds of lengths.
 
 mod both;
+mod changes;
 mod damage;
 mod faults;
 mod lengths;

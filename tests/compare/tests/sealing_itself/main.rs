@@ -1,11 +1,13 @@
 //! Seal, open and view of the second program, against themselves and against
-//! documents 01, 000 and 001; their rounds, against C-13; and prepared keys, those
-//! of the block calls too, against C-16.
+//! documents 01, 000 and 001; their rounds, against C-13; prepared keys, those of
+//! the block calls too, against C-16; and what a changed block moves, against C-23.
 
+mod changes;
 mod damage;
 mod facts;
 mod figure_9;
 mod figures;
+mod not_said;
 mod prepared;
 mod refusals;
 mod round_trips;
