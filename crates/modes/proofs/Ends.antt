@@ -57,16 +57,26 @@ module _ {St : Type 0} (n : ℕ) (M : Mode St) (Ok : St → Type 0) (L : Lawful 
       let t : Block n (M .tag f s (pad n x)) = L .tag-block f s _ ok p in
       join-block (M .blockFirst) n (length x) _ _ (L .undo-fin f s ok .to _ p) (block-take (length x) _ (omega (arith, t .long)) (t .bytes))
 
-  -- the block of an end tells the last block, and so the whole end
-  block-of-end : (s : St) (x : List ℕ) (r : ℕ) → Ok s → Bytes x → length x ≡ r → r ≤ n
-      → endBlock (M .blockFirst) n r (sealLast n M s x) ≡ M .fin (full n r) s (pad n x)
-  unfolding sealLast
-  block-of-end s x r ok b e h =
-      let p : Block n (pad n x) = pad-block n x b in
-      let t : Block n (M .tag (full n (length x)) s (pad n x)) = L .tag-block (full n (length x)) s _ ok p in
-      block-join (M .blockFirst) n r _ _ (L .undo-fin (full n (length x)) s ok .to _ p .long) (length-take-le (length x) _ (omega (arith, t .long)) ∙ e)
-      ∙ ap (λ (k : ℕ). M .fin (full n k) s (pad n x)) e
+  -- ---- an end of r + n bytes, taken apart
 
+  module _ (s : St) (x : List ℕ) (r : ℕ) (ok : Ok s) (b : Bytes x) (e : length x ≡ r) (h : r ≤ n) where
+    fin-long : length (M .fin (full n (length x)) s (pad n x)) ≡ n
+    fin-long = L .undo-fin (full n (length x)) s ok .to _ (pad-block n x b) .long
+
+    tag-long : length (take (length x) (M .tag (full n (length x)) s (pad n x))) ≡ r
+    tag-long = length-take-le (length x) _ (omega (arith, L .tag-block (full n (length x)) s _ ok (pad-block n x b) .long)) ∙ e
+
+    pub block-of-end : endBlock (M .blockFirst) n r (sealLast n M s x) ≡ M .fin (full n r) s (pad n x)
+    unfolding sealLast
+    block-of-end = block-join (M .blockFirst) n r _ _ fin-long tag-long ∙ ap (λ (k : ℕ). M .fin (full n k) s (pad n x)) e
+
+    pub tag-of-end : endTag (M .blockFirst) n r (sealLast n M s x) ≡ take r (M .tag (full n r) s (pad n x))
+    unfolding sealLast
+    tag-of-end =
+        tag-join (M .blockFirst) n r (M .fin (full n (length x)) s (pad n x)) _ fin-long tag-long
+        ∙ ap (λ (k : ℕ). take k (M .tag (full n k) s (pad n x))) e
+
+  -- the block of an end tells the last block, and so the whole end
   pub end-told : (s : St) (x y : List ℕ) (r : ℕ) → Ok s → Bytes x → Bytes y → length x ≡ r → length y ≡ r → r ≤ n
       → endBlock (M .blockFirst) n r (sealLast n M s x) ≡ endBlock (M .blockFirst) n r (sealLast n M s y)
       → sealLast n M s x ≡ sealLast n M s y
@@ -119,21 +129,17 @@ judge-yes n r p second tag x e₁ e₂ e₃ = rw (e₁, e₂, e₃, same-refl ta
 module _ {St : Type 0} (n : ℕ) (M : Mode St) (Ok : St → Type 0) (L : Lawful n M Ok) where
   pub open-seal-last : (s : St) (x : List ℕ) → Ok s → Bytes x → length x ≤ n
       → openLast n M s (sealLast n M s x) ≡ record { authentic = true; body = x }
-  unfolding openAt sealLast
+  unfolding openAt
   open-seal-last s x ok b h =
       let r : ℕ = length x in
       let f : Bool = full n r in
-      let o : Bool = M .blockFirst in
       let p : List ℕ = pad n x in
       let pb : Block n p = pad-block n x b in
       let a : List ℕ = M .fin f s p in
-      let ab : Block n a = L .undo-fin f s ok .to p pb in
-      let la : length a ≡ n = ab .long in
-      let t : List ℕ = take r (M .tag f s p) in
-      let lt : length t ≡ r = length-take-le r (M .tag f s p) (omega (arith, L .tag-block f s p ok pb .long)) in
       let ea : M .unfin f s a ≡ p = L .undo-fin f s ok .there p pb in
-      let et : M .untag f s a ≡ M .tag f s p = L .tag-is f s a ok ab ∙ ap (M .tag f s) ea in
+      let et : M .untag f s a ≡ M .tag f s p = L .tag-is f s a ok (L .undo-fin f s ok .to p pb) ∙ ap (M .tag f s) ea in
+      let t : List ℕ = take r (M .tag f s p) in
       open-at n M Ok L s r (sealLast n M s x) (seal-last-block n M Ok L s x ok b h .long)
-      ∙ ap₂ (λ (z w : List ℕ). judge n r (M .unfin f s z) (M .untag f s z) w) (block-join o n r a t la lt) (tag-join o n r a t la lt)
+      ∙ ap₂ (λ (z w : List ℕ). judge n r (M .unfin f s z) (M .untag f s z) w) (block-of-end n M Ok L s x r ok b refl h) (tag-of-end n M Ok L s x r ok b refl h)
       ∙ ap₂ (λ (z w : List ℕ). judge n r z w t) ea et
       ∙ judge-yes n r p (M .tag f s p) t x refl (pad-rest n x h) (take-pad n x h)

@@ -26,15 +26,15 @@ module _ {St : Type 0} (n : ℕ) (M : Mode St) (Ok : St → Type 0) (L : Lawful 
   abbrev begun : St
   begun = headed n M false header
 
-  module _ (k : ℕ) (a b : List ℕ) (ha : Bytes a) (hb : Bytes b) (la : k * n < length a) (lb : k * n < length b) where
-    front : (i : ℕ) → i < k → (x : List ℕ) → Bytes x → k * n < length x
-        → blockAt n i (sealRun n M header x) ≡ M .out (after n M i begun x) (blockAt n i x)
-    front i h x hx l = run-block n M Ok L header hh x hx (omega arith) _ refl i (omega (arith, before-last-of n k (length x) (L .positive) l))
+  front : (k i : ℕ) → i < k → (x : List ℕ) → Bytes x → k * n < length x
+      → blockAt n i (sealRun n M header x) ≡ M .out (after n M i begun x) (blockAt n i x)
+  front k i h x hx l = run-block n M Ok L header hh x hx (omega arith) _ refl i (omega (arith, before-last-of n k (length x) (L .positive) l))
 
+  module _ (k : ℕ) (a b : List ℕ) (ha : Bytes a) (hb : Bytes b) (la : k * n < length a) (lb : k * n < length b) where
     pub front-stays : AgreeTo n k a b → AgreeTo n k (sealRun n M header a) (sealRun n M header b)
     front-stays e = record {
       blocks = λ i h.
-          front i h a ha la ∙ ap₂ (M .out) (after-agrees n M i begun a b (fewer (omega arith) e)) (e .blocks i h) ∙ sym (front i h b hb lb);
+          front k i h a ha la ∙ ap₂ (M .out) (after-agrees n M i begun a b (fewer (omega arith) e)) (e .blocks i h) ∙ sym (front k i h b hb lb);
     }
 
     -- ---- the other way round, one block more at a time
@@ -46,7 +46,7 @@ module _ {St : Type 0} (n : ℕ) (M : Mode St) (Ok : St → Type 0) (L : Lawful 
           let sized : Block (i * n + (length a - i * n)) a = record { long = omega (arith, suc-mul i n); bytes = ha } in
           undo-one (L .undo _ (after-ok n M Ok L i _ begun a (headed-ok n M Ok L false header hh) sized))
           (block-at n i a ha (omega arith)) (block-at n i b hb (omega arith))
-          (sym (front i h a ha la) ∙ e .blocks i h ∙ front i h b hb lb
+          (sym (front k i h a ha la) ∙ e .blocks i h ∙ front k i h b hb lb
           ∙ ap (λ (t : St). M .out t (blockAt n i b)) (sym (after-agrees n M i begun a b alike)))
 
       up-to : (i : ℕ) → i ≤ k → AgreeTo n i a b

@@ -1,22 +1,23 @@
 -- A run of PAEF cut into its blocks, over any forkcipher with its laws: a block before the last is sealed by its number alone, C_* takes the
 -- last block and S, and the tag's bytes the last block. Assumes nothing.
-use mathlib.Core.Path.{_≡_, sym, ap, _∙_}
-use Prim.Native.Nat.{ℕ, zero, suc, _+_, _*_, _<_}
+use mathlib.Core.Path.{_≡_, refl, sym, ap, _∙_, subst}
+use Prim.Native.Nat.{ℕ, zero, suc, _+_, _*_, _≤_, _<_}
 use native.Mathlib.Nat.{suc-mul}
 use native.Mathlib.Omega.{arith}
 use mathlib.Core.Bool.{false}
 use mathlib.Core.List.{List}
 use lib.ListN.{length, take, drop, length-drop}
-use lib.Seq.{take-all, take-at, drop-at, drop-drop}
+use lib.Seq.{take-all, drop-drop}
 use Rattle.cells.specs.Cells.{Bytes, Block}
 use Rattle.modes.specs.Blocks.{_⊕_, beforeLast, full, pad}
 use Rattle.modes.specs.Changes.{blockAt, behind}
 use Rattle.modes.specs.Forkcipher.{Fork, ForkLaws}
 use Rattle.modes.specs.Lawful.{Lawful}
-use Rattle.modes.specs.Mode.{Mode, join, headed, sealLast, sealRun}
+use Rattle.modes.specs.Mode.{Mode, endBlock, endTag, headed, sealLast, sealRun}
 use Rattle.modes.specs.Paef.{Sum, paefBody, paefTweak, sumTweak, sumHalf, paef}
-use Rattle.modes.proofs.Bytes.{bytes-take, bytes-drop, pad-block}
+use Rattle.modes.proofs.Bytes.{bytes-take, bytes-drop}
 use Rattle.modes.proofs.PaefLaws.{SumOk, paef-lawful}
+use Rattle.modes.proofs.Ends.{block-of-end, tag-of-end}
 use Rattle.modes.proofs.Exact.{headed-ok}
 use Rattle.modes.proofs.Cut.{after, after-ok, run-block, run-end, last-size, sized}
 
@@ -37,14 +38,14 @@ module _ (n ν : ℕ) (F : Fork) (L : ForkLaws n F) (e : ν + 2 ≡ n) (nonce : 
   abbrev pub lastHalf : ℕ → ℕ → List ℕ → List ℕ
   lastHalf h v x = F .half h (paefTweak nonce (paefBody (full n (length x))) v) (pad n x)
 
-  module _ (s : Sum) (x : List ℕ) (hs : SumOk n s) (hx : Bytes x) where
+  module _ (s : Sum) (x : List ℕ) (hs : SumOk n s) (hx : Bytes x) (h : length x ≤ n) where
     end-block : take n (sealLast n P s x) ≡ lastHalf 0 (s .number) x ⊕ s .sum
-    unfolding sealLast join paef sumHalf sumTweak
-    end-block = take-at _ _ n (lawful .undo-fin (full n (length x)) s hs .to _ (pad-block n x hx) .long)
+    unfolding endBlock paef sumHalf sumTweak
+    end-block = block-of-end n P (SumOk n) lawful s x (length x) hs hx refl h
 
     end-tag : drop n (sealLast n P s x) ≡ take (length x) (lastHalf 1 (s .number) x)
-    unfolding sealLast join paef sumHalf sumTweak
-    end-tag = drop-at (lastHalf 0 (s .number) x ⊕ s .sum) _ n (lawful .undo-fin (full n (length x)) s hs .to _ (pad-block n x hx) .long)
+    unfolding endTag paef sumHalf sumTweak
+    end-tag = tag-of-end n P (SumOk n) lawful s x (length x) hs hx refl h
 
   module _ (header : List ℕ) (hh : Bytes header) where
     abbrev pub begun : Sum
@@ -79,16 +80,22 @@ module _ (n ν : ℕ) (F : Fork) (L : ForkLaws n F) (e : ν + 2 ≡ n) (nonce : 
       unfolding blockAt
       last-bytes = bytes-take n _ (bytes-drop (m * n) b hb)
 
-      end : drop (m * n) run ≡ sealLast n P s x
+      tail : length (drop (m * n) b) ≤ n
+      tail = let (r, e, h) = last-size n P (SumOk n) lawful header hh b hb some m last in simp length-drop (omega arith)
+
+      x-is : drop (m * n) b ≡ x
       unfolding blockAt
-      end =
-          let (r, e, h) = last-size n P (SumOk n) lawful header hh b hb some m last in
-          run-end n P (SumOk n) lawful header hh b hb some m last
-          ∙ ap (sealLast n P s) (sym (take-all n (drop (m * n) b) (simp length-drop (omega arith))))
+      x-is = sym (take-all n (drop (m * n) b) tail)
+
+      short : length x ≤ n
+      short = subst (λ (z : List ℕ). length z ≤ n) x-is tail
+
+      end : drop (m * n) run ≡ sealLast n P s x
+      end = run-end n P (SumOk n) lawful header hh b hb some m last ∙ ap (sealLast n P s) x-is
 
       pub c-star : blockAt n m run ≡ lastHalf 0 (begun .number + m) x ⊕ s .sum
       unfolding blockAt
-      c-star = ap (take n) end ∙ end-block s x last-ok last-bytes ∙ ap (λ (v : ℕ). lastHalf 0 v x ⊕ s .sum) (number-after m begun b)
+      c-star = ap (take n) end ∙ end-block s x last-ok last-bytes short ∙ ap (λ (v : ℕ). lastHalf 0 v x ⊕ s .sum) (number-after m begun b)
 
       pub tag-bytes : behind n m run ≡ take (length x) (lastHalf 1 (begun .number + m) x)
       unfolding behind
@@ -97,5 +104,5 @@ module _ (n ν : ℕ) (F : Fork) (L : ForkLaws n F) (e : ν + 2 ≡ n) (nonce : 
           ap (λ (k : ℕ). drop k run) e
           ∙ sym (drop-drop n (m * n) run)
           ∙ ap (drop n) end
-          ∙ end-tag s x last-ok last-bytes
+          ∙ end-tag s x last-ok last-bytes short
           ∙ ap (λ (v : ℕ). take (length x) (lastHalf 1 v x)) (number-after m begun b)

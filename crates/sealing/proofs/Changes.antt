@@ -34,10 +34,10 @@ module _ (number : ℕ) (s : Scheme) (key nonce header : List ℕ) (ok : Admitte
   -- the block sealed from the body's last one, and agree in every other byte, the trailing tag bytes included
   pub paef-one-block : s .kind ≡ Paef → t .number ≡ 0 → u .number ≡ 0
       → (j : ℕ) → j < m → DifferAt n j a b → MovedAt n j m (written t) (written u)
-  paef-one-block q ea eb j h d = written-moves number s key nonce header ok a b room room′ ha hb ea eb q j d h
+  paef-one-block = written-moves number s key nonce header ok a b room room′ ha hb
 
   -- SAEF, scheme 3, and every other scheme too: two bodies that agree in their first k blocks, both longer than k blocks, of equal length or not,
   -- give runs that agree in the first k blocks
   pub first-blocks : t .number ≡ 0 → u .number ≡ 0
       → (k : ℕ) → k * n < length a → k * n < length b → AgreeTo n k a b → AgreeTo n k (written t) (written u)
-  first-blocks ea eb = written-agrees number s key nonce header ok a b room room′ ha hb ea eb
+  first-blocks = written-agrees number s key nonce header ok a b room room′ ha hb
