@@ -1,4 +1,4 @@
-"""What two sealed runs can mean, from the pieces in which they differ. docs/CHANGES.md says why, and names the theorems."""
+"""What two sealed runs can mean, from the pieces in which they differ. docs/DIFFER.md says why, and names the theorems."""
 from cuts import WHOLE_LAST, blocks, changed
 from jobs import count
 

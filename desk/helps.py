@@ -94,7 +94,7 @@ example:
 DIFFER = """\
 Cuts two sealed runs of one scheme into their blocks, shows which differ, and says what that can
 mean of the bodies, if both were sealed under one key, nonce and header. It needs no key and opens
-nothing: docs/CHANGES.md says what is proved of such runs, and what is not.
+nothing: docs/DIFFER.md says what is proved of such runs, and what is not.
 """
 
 DIFFER_MORE = """\

@@ -1,4 +1,5 @@
 """differ: two runs cut into their blocks, which of them differ, and what that can mean."""
+import random
 import re
 import shlex
 import textwrap
@@ -178,11 +179,50 @@ class Given(DifferTest):
         self.assertIn("16 bytes each, of empty bodies\nsame     the tag (bytes 1 to 16)\n", shown)
 
 
+def numbers_in(words):
+    """Of "blocks 1 and 3 to 4": 1, 3 and 4."""
+    spans = re.findall(r"(\d+)(?: to (\d+))?", words)
+    return [number for first, last in spans for number in range(int(first), int(last or first) + 1)]
+
+
+class Truth(DifferTest):
+    """What is said of drawn bodies is so."""
+
+    def is_so(self, said, one, other, block):
+        """Reads the sentence, and looks at the bodies."""
+        before = [max(len(body) - 1, 0) // block for body in (one, other)]
+        apart = [at + 1 for at in range(min(before)) if one[at * block:][:block] != other[at * block:][:block]]
+        ends = one[before[0] * block:] != other[before[1] * block:]
+        found = re.match(r"of the bodies (blocks? [\d, a-z]*?) differs?, and (the last block too|no other before the last|no other)", said)
+        if found:
+            last = {"the last block too": ends, "no other": len(one) != len(other) or not ends}
+            return numbers_in(found[1]) == apart and last.get(found[2], True)
+        agree, differ = re.search(r"agree in (blocks? [\d a-z]*)", said), re.search(r"differ in block (\d+)", said)
+        if agree or differ:
+            alike = numbers_in(agree[1]) if agree else []
+            first = apart[0] if apart else min(before) + 1
+            return alike == list(range(1, first)) and (not differ or int(differ[1]) == first and apart != [])
+        if said.startswith("of the bodies the last block alone differs"):
+            return not apart and ends
+        return one == other if said == "the bodies are equal." else said == "they have no block that could be compared." and min(before) == 0
+
+    def test_drawn_bodies(self):
+        draw = random.Random(23)
+        for scheme in SCHEMES:
+            block = SCHEMES[scheme].block
+            for _ in range(16):
+                one = draw.randbytes(draw.randrange(1, 5 * block))
+                other = changed(one, *draw.sample(range(len(one)), min(len(one), draw.randrange(4))))
+                other = other[:draw.choice((len(one), len(one), draw.randrange(1, len(one) + 1)))]
+                said = self.differ(scheme, self.sealed(scheme, one), self.sealed(scheme, other))[1]
+                self.assertTrue(self.is_so(said, one, other, block), (scheme, one.hex(), other.hex(), said))
+
+
 class Page(support.DeskTest):
-    """docs/CHANGES.md prints what the desk does."""
+    """docs/DIFFER.md prints what the desk does."""
 
     def test_example(self):
-        page = support.between("docs/CHANGES.md", "## By hand", "\0")
+        page = support.between("docs/DIFFER.md", "## By hand", "\0")
         typed, printed = page.split("It prints\n")
         table = shlex.split(re.search('table="(.*)"', typed).group(1).replace("@", f"@{support.ROOT}/"))
         runs = [self.done("seal", *table, "--body", body).strip() for body in re.findall(r"--body (\w+)", typed)]
