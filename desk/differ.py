@@ -4,7 +4,7 @@ from jobs import count
 
 BEWARE = ("Where key, nonce or header differ, none of this follows, and equal runs are not to be expected: fifteen bytes of a header, and the "
           "same with 80 added, are two headers. Whether a run is authentic, only open tells.")
-NONE = "no two bodies give such runs. So key, nonce or header differ, or a run was changed on its way."
+NONE = "no two bodies give such runs. So the scheme is another, or key, nonce or header differ, or a run was changed on its way."
 LAST_ALONE = "of the bodies the last block alone differs"
 BEHIND = {
     "SAEF": "Behind it every sealed block may differ, whatever the bodies hold.",

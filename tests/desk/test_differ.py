@@ -107,7 +107,7 @@ class Sealed(DifferTest):
         ):
             self.check(scheme, body, body, verdicts, meaning, header=(short, full))
         self.check(2, bytes(48), bytes(48), ["same", "DIFFERS", "same"],
-                   "no two bodies give such runs. So key, nonce or header differ", header=(short, full))
+                   "no two bodies give such runs. So the scheme is another, or key, nonce or header differ", header=(short, full))
 
     def test_unequal_lengths(self):
         body = bytes(57)
