@@ -138,19 +138,24 @@ def known_scheme(text):
     number = number_of(text, 255)
     if number not in SCHEMES:
         raise Trouble(f"{number} is no scheme; there are 1 to {max(SCHEMES)}")
-    return number, SCHEMES[number]
+    return number
+
+
+def cut_run(number, text):
+    scheme, whose = SCHEMES[number], f"a run of scheme {number}"
+    run = bytes_of(text, most=scheme.body + scheme.block, whose=whose)
+    if len(run) < scheme.block:
+        raise Trouble(f"{count(run)}; {whose} has one block at least, {scheme.block}")
+    return cuts.Cut(scheme, run)
 
 
 def differ_runs(args):
     """It asks for no key and opens nothing. The exit status is that of cmp and diff."""
-    number, scheme = placed("--scheme", known_scheme, args.scheme)
+    number = placed("--scheme", known_scheme, args.scheme)
+    scheme = SCHEMES[number]
     if args.runs.count(INPUT) > 1:
         raise Trouble("both runs would read standard input, which only one value can")
-    most = scheme.body + scheme.block
-    one, other = (
-        placed(f"the {which} run", lambda text=text: cuts.cut(scheme, number, bytes_of(text, most=most, whose=f"a run of scheme {number}")))
-        for which, text in zip(("first", "second"), args.runs)
-    )
+    one, other = (placed(f"the {which} run", cut_run, number, text) for which, text in zip(("first", "second"), args.runs))
     line("scheme", f"{number}, {scheme.mode}: blocks of {scheme.block} bytes")
     words("runs", cuts.sizes(one, other))
     for verdict, piece in cuts.rows(one, other):

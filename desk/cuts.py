@@ -2,7 +2,6 @@
 tag; and in which of them two runs differ. Blocks and bytes are counted from 1."""
 from jobs import count
 from slips import listed
-from trouble import Trouble
 
 # What the last block is sealed to is a whole block, and the tag as long as that block of the body was; under the others it is the other way round.
 WHOLE_LAST = ("PAEF", "SAEF")
@@ -93,13 +92,3 @@ def sizes(one, other):
         return f"{count(one.run)} each, of empty bodies"
     parts = f"{one.before + 1:,} blocks, the last of {one.rest}" if one.before else f"one block of {one.rest}"
     return f"{count(one.run)} each, of bodies of {one.body:,}: {parts}"
-
-
-def cut(scheme, number, run):
-    """Of a scheme and its number. That a run is one is not looked at, but for its length."""
-    most = scheme.body + scheme.block
-    if len(run) < scheme.block:
-        raise Trouble(f"{count(run)}, and a run of scheme {number} has one block at least, {scheme.block}")
-    if len(run) > most:
-        raise Trouble(f"{count(run)}, and a run of scheme {number} has {most:,} at most")
-    return Cut(scheme, run)

@@ -22,7 +22,7 @@ def paef_one(number, one, other):
     if one.last == other.last:
         return f"{apart([number])}, and the last block too, though its tag agrees: one block alone would have moved what the last is sealed to."
     return (f"{apart([number])}, and no other before the last. This is what one changed block moves: its own sealed block, and what the last "
-            f"block is sealed to. Was the last block changed too, its {count(one.tag)} of tag agree by chance.")
+            f"block is sealed to. Was the last block changed too, its tag of {count(one.tag)} agrees by chance.")
 
 
 def paef_untold(numbers, one, other):

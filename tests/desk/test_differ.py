@@ -154,9 +154,9 @@ class Given(DifferTest):
             self.complains(f"the second run: more has more than {most:,} bytes", "differ", "--scheme", str(scheme), "@one", "@more")
 
     def test_wrong_sizes(self):
-        self.complains("the first run: 15 bytes, and a run of scheme 2 has one block at least, 16",
+        self.complains("the first run: 15 bytes; a run of scheme 2 has one block at least, 16",
                        "differ", "--scheme", "2", "aa" * 15, "bb" * 16)
-        self.complains("the second run: 0 bytes, and a run of scheme 4 has one block at least, 8", "differ", "--scheme", "4", "aa" * 8, "-")
+        self.complains("the second run: 0 bytes; a run of scheme 4 has one block at least, 8", "differ", "--scheme", "4", "aa" * 8, "-")
         self.complains("the first run: 65,537 bytes; a run of scheme 1 has 65,536 at most", "differ", "--scheme", "1", "aa" * 65537, "aa" * 8)
 
     def test_no_such_scheme(self):
