@@ -35,8 +35,8 @@ class DifferTest(support.DeskTest):
 class Sealed(DifferTest):
     """Runs that sealjob made, under one key, nonce and header where nothing else is said."""
 
-    def check(self, scheme, one, other, verdicts, meaning, **headers):
-        runs = [self.sealed(scheme, body, **{name: value[at] for name, value in headers.items()}) for at, body in enumerate((one, other))]
+    def check(self, scheme, one, other, verdicts, meaning, headers=("00", "00")):
+        runs = [self.sealed(scheme, body, header) for body, header in zip((one, other), headers)]
         found, said = self.differ(scheme, *runs)
         self.assertEqual(found, verdicts)
         self.assertIn(meaning, said)
@@ -105,9 +105,9 @@ class Sealed(DifferTest):
             (2, ["same", "DIFFERS", "same"], "though its tag agrees. Or the headers differ and the bodies don't: under PAEF a header moves"),
             (3, ["DIFFERS", "DIFFERS", "DIFFERS"], "the bodies differ in block 1."),
         ):
-            self.check(scheme, body, body, verdicts, meaning, header=(short, full))
+            self.check(scheme, body, body, verdicts, meaning, headers=(short, full))
         self.check(2, bytes(48), bytes(48), ["same", "DIFFERS", "same"],
-                   "no two bodies give such runs. So the scheme is another, or key, nonce or header differ", header=(short, full))
+                   "no two bodies give such runs. So the scheme is another, or key, nonce or header differ", headers=(short, full))
 
     def test_unequal_lengths(self):
         body = bytes(57)

@@ -34,11 +34,18 @@ pub block-at : (n i : ℕ) (x : List ℕ) → Bytes x → suc i * n ≤ length x
 unfolding blockAt
 block-at n i x b h = block-take n (drop (i * n) x) (simp length-drop (omega (arith, suc-mul i n))) (bytes-drop (i * n) x b)
 
-pub agree-first : {n k : ℕ} {a b : List ℕ} → AgreeTo n (suc k) a b → take n a ≡ take n b
-agree-first {n} {k} {a} {b} e = sym (block-zero n a) ∙ e .blocks 0 (omega arith) ∙ block-zero n b
+module _ (n : ℕ) (a b : List ℕ) where
+  pub same-first : blockAt n 0 a ≡ blockAt n 0 b → take n a ≡ take n b
+  same-first e = sym (block-zero n a) ∙ e ∙ block-zero n b
 
-pub agree-rest : {n k : ℕ} {a b : List ℕ} → AgreeTo n (suc k) a b → AgreeTo n k (drop n a) (drop n b)
-agree-rest {n} {k} {a} {b} e = record { blocks = λ i h. sym (block-suc n i a) ∙ e .blocks (suc i) (omega arith) ∙ block-suc n i b }
+  pub same-rest : (i : ℕ) → blockAt n (suc i) a ≡ blockAt n (suc i) b → blockAt n i (drop n a) ≡ blockAt n i (drop n b)
+  same-rest i e = sym (block-suc n i a) ∙ e ∙ block-suc n i b
+
+agree-first : {n k : ℕ} {a b : List ℕ} → AgreeTo n (suc k) a b → take n a ≡ take n b
+agree-first {n} {k} {a} {b} e = same-first n a b (e .blocks 0 (omega arith))
+
+agree-rest : {n k : ℕ} {a b : List ℕ} → AgreeTo n (suc k) a b → AgreeTo n k (drop n a) (drop n b)
+agree-rest {n} {k} {a} {b} e = record { blocks = λ i h. same-rest n a b i (e .blocks (suc i) (omega arith)) }
 
 -- a block in front
 module _ {n : ℕ} {p : List ℕ} (h : Block n p) (q : List ℕ) where

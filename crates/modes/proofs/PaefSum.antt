@@ -14,25 +14,23 @@ use Rattle.modes.specs.Mode.{Mode}
 use Rattle.modes.specs.Paef.{Sum, paefTweak, sumTweak, sumHalf, paef}
 use Rattle.modes.proofs.Undo.{undo-xor, undo-one, xor-cancel}
 use Rattle.modes.proofs.PaefLaws.{SumOk, number-block, paef-lawful}
-use Rattle.modes.proofs.Cut.{block-zero, block-suc, after, after-agrees, first, rest, next-ok}
+use Rattle.modes.proofs.Cut.{block-zero, block-suc, same-first, same-rest, after, after-agrees, first, rest, next-ok}
 
 -- ---- bodies that differ in one block: before it the first blocks are equal, and the rest differs in one; behind it all are equal
 
 module _ {n j : ℕ} {a b : List ℕ} (d : DifferAt n (suc j) a b) where
   differ-first : take n a ≡ take n b
-  differ-first = sym (block-zero n a) ∙ d .others 0 (λ q. absurd (omega arith)) ∙ block-zero n b
+  differ-first = same-first n a b (d .others 0 (λ q. absurd (omega arith)))
 
   differ-rest : DifferAt n j (drop n a) (drop n b)
   differ-rest = record {
     long = simp length-drop (rw (d .long));
     differ = λ q. d .differ (block-suc n j a ∙ q ∙ sym (block-suc n j b));
-    others = λ i h. sym (block-suc n i a) ∙ d .others (suc i) (λ q. h (omega arith)) ∙ block-suc n i b;
+    others = λ i h. same-rest n a b i (d .others (suc i) (λ q. h (omega arith)));
   }
 
 agree-behind : {n : ℕ} (k : ℕ) {a b : List ℕ} → DifferAt n 0 a b → AgreeTo n k (drop n a) (drop n b)
-agree-behind {n} k {a} {b} d = record {
-  blocks = λ i h. sym (block-suc n i a) ∙ d .others (suc i) (λ q. absurd (omega arith)) ∙ block-suc n i b;
-}
+agree-behind {n} k {a} {b} d = record { blocks = λ i h. same-rest n a b i (d .others (suc i) (λ q. absurd (omega arith))) }
 
 module _ (n ν : ℕ) (F : Fork) (L : ForkLaws n F) (e : ν + 2 ≡ n) (nonce : List ℕ) (hn : Block ν nonce) where
   abbrev P : Mode Sum
