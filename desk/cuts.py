@@ -70,8 +70,7 @@ def block_rows(one, other):
     alike = sorted(set(range(1, min(one.before, other.before) + 1)).difference(differing))
     found = [(span, True) for span in spans(alike)] + [(span, False) for span in spans(differing)]
     for (first, last), same in sorted(found):
-        word = "block" if first == last else "blocks"
-        yield verdict(same), f"{word} {named((first, last))} {place((first - 1) * one.block, last * one.block)}"
+        yield verdict(same), f"{blocks(range(first, last + 1))} {place((first - 1) * one.block, last * one.block)}"
 
 
 def rows(one, other):

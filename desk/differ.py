@@ -6,11 +6,8 @@ BEWARE = ("Where key, nonce or header differ, none of this follows, and equal ru
           "same with 80 added, are two headers. Whether a run is authentic, only open tells.")
 NONE = "no two bodies give such runs. So the scheme is another, or key, nonce or header differ, or a run was changed on its way."
 LAST_ALONE = "of the bodies the last block alone differs"
-BEHIND = {
-    "SAEF": "Behind it every sealed block may differ, whatever the bodies hold.",
-    "Umbreon": "Of what stands behind it nothing is promised under this scheme.",
-    "Jolteon": "Of what stands behind it nothing is promised under this scheme.",
-}
+BEHIND_SAEF = "Behind it every sealed block may differ, whatever the bodies hold."
+BEHIND = "Of what stands behind it nothing is promised under this scheme."
 
 
 def apart(numbers):
@@ -52,15 +49,15 @@ def chained(mode, numbers):
     if not numbers:
         return f"{LAST_ALONE}."
     first = numbers[0]
-    agree = f"the bodies agree in {blocks(list(range(1, first)))}, and differ" if first > 1 else "the bodies differ"
-    return f"{agree} in block {first:,}. {BEHIND[mode]}"
+    agree = f"the bodies agree in {blocks(range(1, first))}, and differ" if first > 1 else "the bodies differ"
+    return f"{agree} in block {first:,}. {BEHIND_SAEF if mode == 'SAEF' else BEHIND}"
 
 
 def unequal(mode, numbers, common):
     if not common:
         return "they have no block that could be compared."
     if not numbers:
-        return f"the bodies agree in {blocks(list(range(1, common + 1)))}."
+        return f"the bodies agree in {blocks(range(1, common + 1))}."
     return f"{apart(numbers)}, and no other of those compared." if mode == "PAEF" else chained(mode, numbers)
 
 

@@ -91,7 +91,7 @@ module _ {St : Type 0} (n : ℕ) (M : Mode St) (Ok : St → Type 0) (L : Lawful 
   after-ok zero r s b ok h = ok
   after-ok (suc m) r s b ok h = after-ok m r _ (drop n b) (next-ok m r h s ok) (rest m r h)
 
-  pub sealed-block : (i m r : ℕ) (s : St) (b : List ℕ) → Ok s → Block (m * n + r) b → i < m
+  sealed-block : (i m r : ℕ) (s : St) (b : List ℕ) → Ok s → Block (m * n + r) b → i < m
       → blockAt n i (sealFrom n M m s b) ≡ M .out (after n M i s b) (blockAt n i b)
   unfolding sealFrom
   sealed-block i zero r s b ok h k = absurd (omega arith)
@@ -101,7 +101,7 @@ module _ {St : Type 0} (n : ℕ) (M : Mode St) (Ok : St → Type 0) (L : Lawful 
       ∙ sealed-block i m r _ (drop n b) (next-ok m r h s ok) (rest m r h) (omega arith)
       ∙ ap (M .out (after n M (suc i) s b)) (sym (block-suc n i b))
 
-  pub sealed-end : (m r : ℕ) (s : St) (b : List ℕ) → Ok s → Block (m * n + r) b
+  sealed-end : (m r : ℕ) (s : St) (b : List ℕ) → Ok s → Block (m * n + r) b
       → drop (m * n) (sealFrom n M m s b) ≡ sealLast n M (after n M m s b) (drop (m * n) b)
   unfolding sealFrom
   sealed-end zero r s b ok h = rw (zero-mul n)

@@ -1,4 +1,5 @@
--- Bodies that begin alike are sealed to runs that begin alike, and to no others, for every mode that obeys the laws (C-23). Assumes nothing.
+-- For every mode that obeys the laws (C-23): bodies that begin alike are sealed to runs that begin alike, and no others are; and of the end of a
+-- run one piece tells the other. Assumes nothing.
 use mathlib.Core.Path.{_≡_, refl, sym, ap, ap₂, _∙_, subst}
 use Prim.Native.Nat.{ℕ, zero, suc, _+_, _*_, _-_, _≤_, _<_}
 use native.Mathlib.Nat.{suc-mul, mul-le-mul-right}

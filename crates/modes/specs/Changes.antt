@@ -23,8 +23,8 @@ pub record DifferAt (n j : ℕ) (a b : List ℕ) : Type 0 where
   pub differ : blockAt n j a ≡ blockAt n j b → ⊥
   pub others : (i : ℕ) → (i ≡ j → ⊥) → blockAt n i a ≡ blockAt n i b
 
--- two runs of equal length, cut into m blocks, C_* and the trailing bytes of the tag: block j differs and C_* differs, each as a whole, and
--- every other block is equal, and so are the trailing bytes
+-- two runs of equal length, cut into m blocks, C_* and the trailing bytes of the tag (001, figure 5, enc 38): block j differs and C_* differs,
+-- each as a whole, and every other block is equal, and so are the trailing bytes
 pub record MovedAt (n j m : ℕ) (c d : List ℕ) : Type 0 where
   pub long : length c ≡ length d
   pub block-differs : blockAt n j c ≡ blockAt n j d → ⊥
