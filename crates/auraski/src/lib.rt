@@ -1,4 +1,6 @@
 // The entry points for C: plain numbers and byte runs. The header include/auraski.h tells a C programmer what each call means.
+#![tactic(auto)]
+
 pub mod with_prepared;
 
 ghost use Rattle.std.specs.Prelude.{◌≡◌};

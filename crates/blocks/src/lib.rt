@@ -1,4 +1,6 @@
 // Blocks between the caller's slices and arrays of sixteen bytes, of which the first n count.
+#![tactic(auto)]
+
 ghost use Rattle.std.specs.Prelude.{◌≡◌, ◌++◌, ◌≤◌, ◌-◌, eqb, length, take, drop, replicate};
 ghost use Rattle.modes.specs.Blocks.{◌⊕◌, pad, same};
 

@@ -1,5 +1,7 @@
 // The cells: nibbles or bytes, their tables forward and backward, and the steps of tweakey words 2 and 3.
 // Cells are worked out from bits (words.rt). The tables stand here to be held to the rule, entry by entry; no code reads them.
+#![tactic(auto)]
+
 pub mod words;
 
 ghost use Rattle.std.specs.Prelude.{◌≡◌};

@@ -1,4 +1,6 @@
 // The ciphers: their sizes, blocks and keys as cells, the branch constant, and what a block call makes once: the round keys.
+#![tactic(auto)]
+
 ghost use Rattle.std.specs.Prelude.{◌≡◌, ◌≤◌, length, replicate};
 ghost use Rattle.cells.specs.Cells.{Nibble, Byte, Bytes};
 ghost use Rattle.constants.specs.Constants.{Room};

@@ -1,5 +1,7 @@
 // The round constants, and the room that round keys are laid in.
 // A room has 97 rows: the first round's, and six times sixteen, for the 87 rounds of the longest cipher.
+#![tactic(auto)]
+
 ghost use Rattle.constants.specs.Constants.{Room};
 
 // The constants of table 2 of the Forkcipher paper, each as a round adds it: its low four bits, 2, and its high three bits.

@@ -1,5 +1,7 @@
 // The modes of the Eevee paper (000, figure 9), block by block. Here stands what Umbreon and Jolteon have in common: block calls under the tweak
 // of a number, the header, the last block.
+#![tactic(auto)]
+
 pub mod jolteon;
 pub mod umbreon;
 

@@ -1,4 +1,6 @@
 // ForkSkinny: the fork forward and back, and what a block call works out once its cipher and its key's share are known.
+#![tactic(auto)]
+
 pub mod by_cipher;
 pub mod calls;
 

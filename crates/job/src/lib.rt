@@ -1,4 +1,6 @@
 // A job of the desk: read, run, and answered by one line.
+#![tactic(auto)]
+
 pub mod sections;
 
 ghost use Rattle.std.specs.Prelude.{◌≡◌};

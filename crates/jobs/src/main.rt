@@ -1,16 +1,21 @@
 // Many jobs in one run, each behind its two-byte count: prints the line of each, as the desk's program does of one. Its stored input
 // and output hold the desk's answers under the gate.
+#![tactic(auto)]
+
 ghost use Rattle.std.specs.Prelude.{◌<◌, ◌≤◌, length};
 
 use job::sections::{section, whole};
-use libc::{STDIN_FILENO, STDOUT_FILENO};
+
+// The descriptors of standard input and standard output.
+const INPUT: i32 = 0;
+const OUTPUT: i32 = 1;
 
 // Prints the line of one job.
 fn one(job: &[u8]) {
     let mut room = [0u8; 16384];
     let mut text = [0u8; 32832];
     let k = job::answer(job, &mut room, &mut text);
-    io::write_all(STDOUT_FILENO, &text[..k]);
+    io::write_all(OUTPUT, &text[..k]);
 }
 
 // Runs the job at a place and answers the next place; what is no whole job ends the input.
@@ -36,6 +41,6 @@ fn all(s: &[u8]) {
 
 fn main() {
     let mut input = io::large_buffer();
-    let n = io::read_full(STDIN_FILENO, &mut input);
+    let n = io::read_full(INPUT, &mut input);
     all(&input[..n]);
 }

@@ -1,4 +1,6 @@
 // Round keys kept from block to block: the schedule is linear, so that they can be corrected where a tweak changes in its last byte alone.
+#![tactic(auto)]
+
 ghost use Rattle.std.specs.Prelude.{◌≡◌, true, ◌-◌, ◌<◌, ◌≤◌, take};
 ghost use Rattle.constants.specs.Constants.{Room};
 ghost use Rattle.prepared.specs.Prepared.{Made};

@@ -1,4 +1,6 @@
 // The line that an answer is printed as, laid down in a text from its front on.
+#![tactic(auto)]
+
 ghost use Rattle.std.specs.Prelude.{◌+◌, ◌≤◌, ◌<◌, ◌≡◌, length};
 ghost use Rattle.io.specs.Counts.{IsPrefixLen};
 ghost use Rattle.io.specs.Digits.{hex_digit_ascii};

@@ -1,5 +1,7 @@
 // The calls of the library once more, with the rounds that they tell, which the library's own entry points leave out. For the comparison
 // alone (tests/compare), so that it sees the rounds of every call.
+#![tactic(auto)]
+
 ghost use Rattle.std.specs.Prelude.{◌≡◌};
 ghost use Rattle.forkskinny.specs.Calls.{fork_of, unfork_of};
 ghost use Rattle.sealing.specs.Calls.{seal_of, open_of};

@@ -1,5 +1,7 @@
 // A key prepared for a cipher: its share of every round, worked out once, to serve many records. Every call takes such a record, and judges
 // it before it goes by it.
+#![tactic(auto)]
+
 ghost use Rattle.std.specs.Prelude.{◌≡◌, ◌++◌, ◌*◌, ◌≤◌, eqb, length, take, drop};
 ghost use Rattle.ciphers.specs.declared.Cipher.TheVariants.{N64T192, N128T256};
 ghost use Rattle.modes.specs.Blocks.{same};

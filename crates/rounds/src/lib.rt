@@ -3,6 +3,8 @@
 // compiler works the four rows at once.)
 // A word holds complements of cells (specs/Words.antt). Forward, what a round adds turns row 2 over; the columns mixed, it is row 0 that is
 // turned over, and it is turned back. Back, mixing the columns turns rows 2 and 3 over, and what a round adds turns them back.
+#![tactic(auto)]
+
 pub mod words;
 
 ghost use Rattle.std.specs.Prelude.{◌≡◌};

@@ -3,6 +3,8 @@
 // themselves; after sixteen rounds each stands where it stood. So cells are stepped where they stand, and only a key is moved.
 // What a key gives to all rounds is worked out once, its share: 49 rows of sixteen cells, a row for each step. From call to call only the
 // tweak's word, the tweakey's last, is stepped. The room for round keys is `constants::room`.
+#![tactic(auto)]
+
 ghost use Rattle.std.specs.Prelude.{◌≡◌, ℕ, ◌+◌, ◌*◌, ◌<◌, ◌≤◌, map, length, get_or, replicate};
 ghost use Rattle.cells.specs.Cells.{Nibble, Byte, Two, Three, step2, step3};
 ghost use Rattle.constants.specs.Constants.{Room};

@@ -1,4 +1,6 @@
 // The table of schemes. Nothing else counts them.
+#![tactic(auto)]
+
 pub mod checks;
 
 ghost use Rattle.std.specs.Prelude.{◌≡◌};

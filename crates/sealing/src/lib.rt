@@ -1,4 +1,6 @@
 // Seal, open and view, and the rounds of a record by its lengths.
+#![tactic(auto)]
+
 ghost use Rattle.std.specs.Prelude.{◌≡◌, ◌-◌};
 ghost use Rattle.prepared.specs.Prepared.{key_in, key_of, record_of, Made};
 ghost use Rattle.schemes.specs.Schemes.{Fits};

@@ -1,5 +1,7 @@
 // What goes from block to block, and the names of the modes. Blocks are sixteen bytes, of which the cipher's first n count; what stands behind
 // them is never read.
+#![tactic(auto)]
+
 ghost use Rattle.std.specs.Prelude.{◌≡◌, ◌++◌, ◌+◌, ◌≤◌, length, take};
 ghost use Rattle.modes.specs.Blocks.{be16};
 ghost use Rattle.states.specs.Modes.{block_first, takes_blank};

@@ -1,4 +1,6 @@
 // The steps of a mode: one block of a header or a body, sealed or opened, by the crate that has the mode.
+#![tactic(auto)]
+
 ghost use Rattle.std.specs.Prelude.{◌≡◌, ◌+◌, ◌≤◌, length, take};
 ghost use Rattle.ciphers.specs.Ciphers.{block_of};
 ghost use Rattle.prepared.specs.Prepared.{key_in};

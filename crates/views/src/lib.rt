@@ -1,4 +1,6 @@
 // The part of a caller's room that an answer speaks of.
+#![tactic(auto)]
+
 ghost use Rattle.std.specs.Prelude.{◌≡◌};
 ghost use Rattle.views.specs.View.{view_of};
 

@@ -1,4 +1,6 @@
 // The walks: over a header, over a body to be sealed, over a run to be opened, block by block. They know no mode.
+#![tactic(auto)]
+
 pub mod counting;
 pub mod ends;
 pub mod headers;

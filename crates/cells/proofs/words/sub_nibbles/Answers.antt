@@ -2,8 +2,7 @@
 use Rattle.cells.specs.Cells.{sub}
 use Rattle.cells.specs.Words.{sub_pair}
 use Rattle.cells.proofs.Rules.{Rule, whole, right, left, ◌and◌, ◌xor◌, ◌or◌, ◌then◌, each}
-use Rattle.cells.proofs.words.sub_nibbles.Statement.{statement}
-use Rattle.cells.proofs.words.sub_nibbles.Tie as tie
+use Rattle.cells.proofs.words.sub_nibbles.Goals as goal
 
 abbrev rule : Rule
 rule =
@@ -12,9 +11,6 @@ rule =
     then whole xor (left 1 0x22 and right 2 0x22)
     then right 1 0x77 or left 3 0x88
 
-returns : tie.Need-returns
+pub returns : goal.returns
 unfolding sub_pair sub
 returns c = each sub_pair rule tt tt c.args.y
-
-pub sub_nibbles_spec : {M : Type 1} → statement M
-sub_nibbles_spec = tie.close (tie.spec returns)

@@ -2,8 +2,7 @@
 use Rattle.cells.specs.Cells.{unsub}
 use Rattle.cells.specs.Words.{unsub_pair}
 use Rattle.cells.proofs.Rules.{Rule, whole, right, left, ◌and◌, ◌xor◌, ◌or◌, ◌then◌, each}
-use Rattle.cells.proofs.words.unsub_nibbles.Statement.{statement}
-use Rattle.cells.proofs.words.unsub_nibbles.Tie as tie
+use Rattle.cells.proofs.words.unsub_nibbles.Goals as goal
 
 abbrev rule : Rule
 rule =
@@ -13,9 +12,6 @@ rule =
     then whole xor (left 1 0x88 and left 2 0x88)
     then whole xor (right 2 0x11 and right 3 0x11)
 
-returns : tie.Need-returns
+pub returns : goal.returns
 unfolding unsub_pair unsub
 returns c = each unsub_pair rule tt tt c.args.y
-
-pub unsub_nibbles_spec : {M : Type 1} → statement M
-unsub_nibbles_spec = tie.close (tie.spec returns)

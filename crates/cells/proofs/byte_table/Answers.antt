@@ -1,12 +1,8 @@
 -- `cells::byte_table` meets its contract: one computed test of the table against the rule. Assumes nothing.
 use Rattle.cells.specs.Cells.{Byte, sub, sub8, flips, shuffle, swap}
 use Rattle.cells.proofs.Tabs.{table}
-use Rattle.cells.proofs.byte_table.Statement.{statement}
-use Rattle.cells.proofs.byte_table.Tie as tie
+use Rattle.cells.proofs.byte_table.Goals as goal
 
-returns : tie.Need-returns
+pub returns : goal.returns
 unfolding sub sub8 flips shuffle swap
 returns c = record { at = table (sub Byte) 256 }
-
-pub byte_table_spec : {M : Type 1} → statement M
-byte_table_spec = tie.close (tie.spec returns)

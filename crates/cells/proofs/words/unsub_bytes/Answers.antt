@@ -1,8 +1,7 @@
 -- `cells::words::unsub_bytes` meets its contract: the code is this formula, and one computed test of it over all bytes. Assumes nothing.
 use Rattle.cells.specs.Cells.{Byte, unsub, unsub8, flips, unshuffle, swap}
 use Rattle.cells.proofs.Rules.{Rule, whole, right, left, lefts, ◌and◌, ◌xor◌, ◌or◌, ◌then◌, each}
-use Rattle.cells.proofs.words.unsub_bytes.Statement.{statement}
-use Rattle.cells.proofs.words.unsub_bytes.Tie as tie
+use Rattle.cells.proofs.words.unsub_bytes.Goals as goal
 
 abbrev rule : Rule
 rule =
@@ -12,9 +11,6 @@ rule =
     then whole xor lefts 5 4 0x40 xor lefts 5 1 0x20
     then whole xor (right 3 0x11 and right 2 0x11)
 
-returns : tie.Need-returns
+pub returns : goal.returns
 unfolding unsub unsub8 flips unshuffle swap
 returns c = each (unsub Byte) rule tt tt c.args.y
-
-pub unsub_bytes_spec : {M : Type 1} → statement M
-unsub_bytes_spec = tie.close (tie.spec returns)

@@ -1,8 +1,7 @@
 -- `cells::words::sub_bytes` meets its contract: the code is this formula, and one computed test of it over all bytes. Assumes nothing.
 use Rattle.cells.specs.Cells.{Byte, sub, sub8, flips, shuffle, swap}
 use Rattle.cells.proofs.Rules.{Rule, whole, bits, right, left, lefts, ◌and◌, ◌xor◌, ◌or◌, ◌then◌, each}
-use Rattle.cells.proofs.words.sub_bytes.Statement.{statement}
-use Rattle.cells.proofs.words.sub_bytes.Tie as tie
+use Rattle.cells.proofs.words.sub_bytes.Goals as goal
 
 abbrev rule : Rule
 rule =
@@ -12,9 +11,6 @@ rule =
     then (left 2 0xc8 or left 5 0x20 or left 1 0x10 or right 4 0x04 or right 6 0x02 or right 2 0x01)
     xor (right 1 0x11 and (bits 0x10 or right 7 0x01))
 
-returns : tie.Need-returns
+pub returns : goal.returns
 unfolding sub sub8 flips shuffle swap
 returns c = each (sub Byte) rule tt tt c.args.y
-
-pub sub_bytes_spec : {M : Type 1} → statement M
-sub_bytes_spec = tie.close (tie.spec returns)
