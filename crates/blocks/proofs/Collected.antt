@@ -77,10 +77,10 @@ pub collected_none : {a b : List ℕ} → length a ≡ length b → Collected a 
 unfolding same
 collected_none e = record { long = e; said = refl }
 
-pub collected-more
+pub collected_more
     : {a b : List ℕ} {i d : ℕ} → Collected a b i d → i < length a
     → Collected a b (i + 1) (bit_or d (bit_xor (get_or a i 0) (get_or b i 0)))
-collected-more {a} {b} {i} {d} s h =
+collected_more {a} {b} {i} {d} s h =
     let x = get_or a i 0 in
     let y = get_or b i 0 in
     record {

@@ -24,10 +24,10 @@ take_replicate (suc k) zero h = absurd (omega arith)
 take_replicate (suc k) (suc n) h = ap (λ (r : List ℕ). 0 ∷ r) (take_replicate k n (omega arith))
 
 -- a part that is short of one
-pub load-short
+pub load_short
     : (n : ℕ) (part : List ℕ) → length part < n → n ≤ 16
     → take n (set (take (length part) part ++ replicate (16 - length part) 0) (length part) 128) ≡ pad n part
-load-short n part h k =
+load_short n part h k =
     let z : 16 - length part ≡ suc (15 - length part) = omega arith in
     let e : n ≡ length part + suc (n - suc (length part)) = omega arith in
     let b : length part ≤ length part = omega arith in

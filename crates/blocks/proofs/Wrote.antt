@@ -32,11 +32,11 @@ module _ {out room₀ room : List ℕ} {at : ℕ} (w : Wrote out room₀ at room
       put_rest at room ys
       ∙ rw (h, part_rest at room, w.said, take_at out (drop at room₀) at w.reach, drop_at out (drop at room₀) at w.reach, drop-drop n at room₀, append_assoc)
 
-  pub wrote-more
+  pub wrote_more
       : at + n ≤ length room₀
       → ys ≡ x ++ drop n (take (length room - at) (drop at room))
       → Wrote (out ++ x) room₀ (at + n) (take at room ++ (ys ++ drop (length room - at) (drop at room)))
-  wrote-more k h =
+  wrote_more k h =
       let l : length (out ++ x) ≡ at + n = length-append out x ∙ omega (arith, w.reach) in
       record {
         said = said_more h;

@@ -53,12 +53,12 @@ never_9 job room j e =
 -- ---- what is printed
 
 -- a seal of what is admitted and has a run: the run, whatever stood in the room
-pub prints-sealed
+pub prints_sealed
     : (number : ℕ) (s : Scheme) (key nonce header body room : List ℕ) → Admitted number s key nonce header → Bytes body
     → blank s (length header) (length body) ≡ false → length (written number 0 key nonce header body) ≤ 16384 → 16384 ≤ length room
     → printed (written number 0 key nonce header body) room
     ≡ line_of 0 (length body + block_of s.cipher) (sealed s key nonce header body)
-prints-sealed number s key nonce header body room ok b some l r =
+prints_sealed number s key nonce header body room ok b some l r =
     let w = wide number s ok.named in
     let m = written_length number 0 key nonce header body in
     let fits : length body ≤ s.body = omega (arith, l, m, w.body) in
@@ -68,11 +68,11 @@ prints-sealed number s key nonce header body room ok b some l r =
     ∙ done_line (seal_rounds s key nonce header body) (length body + block_of s.cipher) (sealed s key nonce header body) room (sealed_long number s key nonce header ok body b)
 
 -- an open of a run to which a body seals: the body, whatever stood in the room
-pub prints-opened
+pub prints_opened
     : (number : ℕ) (s : Scheme) (key nonce header body run room : List ℕ) → Admitted number s key nonce header → Bytes run
     → SealsTo s key nonce header body run → length (written number 1 key nonce header run) ≤ 16384 → 16384 ≤ length room
     → printed (written number 1 key nonce header run) room ≡ line_of 0 (length body) body
-prints-opened number s key nonce header body run room ok hr t l r =
+prints_opened number s key nonce header body run room ok hr t l r =
     let enough : length run ≤ length room + block_of s.cipher = omega (arith, l, r, written_length number 1 key nonce header run) in
     ap line_for (job_opens number key nonce header run room l ∙ returned number s key nonce header ok run room hr enough body t)
     ∙ done_line (open_rounds s key nonce header run) (length body) body room refl

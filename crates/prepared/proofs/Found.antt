@@ -182,11 +182,11 @@ module _ (cells d : List ℕ) {again : List ℕ} (laid : again ≡ take 240 (sha
 
 -- a and b are what two parts of a share of 64-192 differ in: its first fifteen rows from those made anew, and the others from those fifteen
 -- rows before them
-pub differs-64-192
+pub differs_64_192
     : (s d : List ℕ) (a b : ℕ) {again : List ℕ} → length s ≡ 784 → again ≡ take 240 (share_of N64T192 (key_in N64T192 s)) ++ drop 240 d
     → eqb a 0 ≡ same (take 240 s) (take 240 again) → eqb b 0 ≡ same (take (length s - 240) (drop 240 s)) (take 544 s)
     → eqb (bit_or a b) 0 ≡ same s (share_of N64T192 (key_in N64T192 s))
-differs-64-192 s d a b l e p q =
+differs_64_192 s d a b l e p q =
     let k = key_in N64T192 s in
     let cells = key_cells N64T192 k unmoving in
     or_none a b
@@ -194,10 +194,10 @@ differs-64-192 s d a b l e p q =
     ∙ sym (repeats 240 544 (share_of N64T192 k) (shares_long N64T192 cells) (again_64_192 k (key_block N64T192 s)) s l (omega arith))
 
 -- and of 128-256: every row but the first from the one before it
-pub differs-128-256
+pub differs_128_256
     : (s : List ℕ) (a : ℕ) → Bytes s → length s ≡ 784 → eqb a 0 ≡ same (take (length s - 16) (drop 16 s)) (take 768 s)
     → eqb a 0 ≡ same s (share_of N128T256 (key_in N128T256 s))
-differs-128-256 s a b l q =
+differs_128_256 s a b l q =
     let k = key_in N128T256 s in
     q ∙ ap (λ (x : List ℕ). same x (take 768 s)) (part_rest 16 s)
     ∙ sym (ap (λ (t : Bool). t && same (drop 16 s) (take 768 s)) (same_if (begins s b l)))

@@ -40,10 +40,10 @@ pub shares_none : (c : Cipher) (t d : List ℕ) → length d ≡ 784 → SharesL
 shares_none c t d l = record { room = l; laid = laid_none (shares_of c t) d }
 
 module _ (c : Cipher) (t : List ℕ) {d share : List ℕ} (k : ℕ) where
-  pub shares-more
+  pub shares_more
       : (j v : ℕ) → k < 49 → j < 16 → v ≡ share_cell (width_of c) (words_of c) t k j
       → SharesLaid c t d (16 * k + j) share → SharesLaid c t d (16 * k + (j + 1)) (set share (16 * k + j) v)
-  shares-more j v p q e s =
+  shares_more j v p q e s =
       let on : 16 * k + j + 1 ≡ 16 * k + (j + 1) = omega arith in
       record {
         room = s.room;

@@ -86,9 +86,9 @@ added_all d t s =
     (row (λ j. xor_last (cell s 3 j) 255 i))
 
 -- the word of row 0 turned over is its cells turned over
-pub top-words
+pub top_words
     : (m : List ℕ) → shown (four (bit_xor (get_or m 0 0) 0xffffffff) (get_or m 1 0) (get_or m 2 0) (get_or m 3 0)) ≡ sub_by not8 (top_not (lanes m))
-top-words m =
+top_words m =
     let at : ℕ → ℕ = λ k. get_or m k 0 in
     λ i. sub_by not8 (four (row (λ j. lane_xor (at 0) 0xffffffff j i)) (row (lane (at 1))) (row (lane (at 2))) (row (lane (at 3))))
 

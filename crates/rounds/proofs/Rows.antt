@@ -83,10 +83,10 @@ module _ (x : ℕ) (h : x < 4294967296) where
 
 -- ---- a row held by its complements
 
-pub held-row
+pub held_row
     : (x : ℕ) (r : List ℕ) → row (lane x) ≡ row (λ j. get_or r j 0)
     → row (λ j. not8 (lane (bit_xor x 4294967295) j)) ≡ row (λ j. get_or r j 0)
-held-row x r e =
+held_row x r e =
     fours (back 0 refl) (back 1 refl) (back 2 refl) (back 3 refl) ∙ e
   where
     back : (j : ℕ) → lane 4294967295 j ≡ 255 → not8 (lane (bit_xor x 4294967295) j) ≡ lane x j
@@ -101,10 +101,10 @@ module _ (y a b c d : ℕ) (e : y ≡ d * 16777216 + (c * 65536 + (b * 256 + a))
       let z : y * 16 % 4294967296 ≡ d * 16 * 16777216 + (c * 16 * 65536 + (b * 16 * 256 + a * 16)) = omega arith in
       ap (λ (x : ℕ). row (lane x)) z ∙ row_of_sum (a * 16) (b * 16) (c * 16) (d * 16) (omega arith) (omega arith) (omega arith) (omega arith)
 
-pub pair_row
+pub pair_row_lem
     : (x y : ℕ) (t u : ℕ → ℕ) → y < 4294967296 → row (lane x) ≡ row t → row (lane y) ≡ row u → ((k : ℕ) → u k < 16)
     → row (lane (bit_xor x (y * 16 % 4294967296))) ≡ row (λ j. bit_xor (t j) (u j * 16))
-pair_row x y t u h p q l =
+pair_row_lem x y t u h p q l =
     fours (cell 0) (cell 1) (cell 2) (cell 3)
     ∙ (λ i. four (bit_xor (get_or (p i) 0 0) (get_or (up i) 0 0)) (bit_xor (get_or (p i) 1 0) (get_or (up i) 1 0)) (bit_xor (get_or (p i) 2 0) (get_or (up i) 2 0)) (bit_xor (get_or (p i) 3 0) (get_or (up i) 3 0)))
   where

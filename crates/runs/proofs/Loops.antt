@@ -102,11 +102,11 @@ module _ {w : Width} {m : ℕ} {keys : List (List ℕ)} {from : ℕ} where
   begun_none = record { by = λ n t known s e. e }
 
   -- y is x after the linear part of the next round
-  pub begun-end
+  pub begun_end
       : {x₀ x y : State} {i : ℕ} → from + i < m → Begun w m keys from x₀ i x → (LowRows w m keys → y ≡ linear (get_or keys (from + i) []) x)
       → (s : State) → x₀ ≡ sub_by (sub w) s → Ran w m keys from (i + 1) s y
   unfolding rounds
-  begun-end {x₀} {x} {y} {i} h b e s f = record {
+  begun_end {x₀} {x} {y} {i} h b e s f = record {
     by = λ n t known.
         e (rows_low known)
         ∙ ap (linear (get_or keys (from + i) [])) (b.by n t known s f)
@@ -117,7 +117,7 @@ module _ {w : Width} {m : ℕ} {keys : List (List ℕ)} {from : ℕ} where
   pub begun_more
       : {x₀ x y z : State} {i : ℕ} → from + i < m → Begun w m keys from x₀ i x → (LowRows w m keys → y ≡ linear (get_or keys (from + i) []) x)
       → z ≡ sub_by (sub w) y → Begun w m keys from x₀ (i + 1) z
-  begun_more h b e d = record { by = λ n t known s f. d ∙ ap (sub_by (sub w)) ((begun-end h b e s f).by n t known) }
+  begun_more h b e d = record { by = λ n t known s f. d ∙ ap (sub_by (sub w)) ((begun_end h b e s f).by n t known) }
 
   -- ---- back
 

@@ -17,7 +17,7 @@ use Rattle.rounds.specs.State.{State, cell, four, row, grid, sub_by, unround}
 use Rattle.rounds.specs.Words.{shown, linear_by, linear, unlinear, pair_row, paired}
 use Rattle.rounds.proofs.Views.{View, whole_view, near_view, far_view, view_row, linear_view, unlinear_view}
 use Rattle.runs.specs.Runs.{Ran, Unran}
-use Rattle.runs.proofs.Loops.{LowRows, Begun, begun-end, begun_more, Left, left_less, left_none, unround_linear}
+use Rattle.runs.proofs.Loops.{LowRows, Begun, begun_end, begun_more, Left, left_less, left_none, unround_linear}
 
 -- v is what is seen of a byte, f and g are what the code makes of a byte forward and back
 pub record Kind (w : Width) (v f g : ℕ → ℕ) : Type 0 where
@@ -115,19 +115,19 @@ module _ {w : Width} {v f g : ℕ → ℕ} (k : Kind w v f g) where
     turn_forward b d = begun_more h b part (ap (sub_by v) d.by ∙ λ j. grid (λ a b. k.forward (cell (shown y) a b) j))
 
     -- behind the loop: x₀ came of s
-    pub end-forward
+    pub end_forward
         : {x₀ y₀ : List ℕ} → Worked f y₀ x₀ → Begun w m keys from (sub_by v (shown x₀)) i (sub_by v (shown x)) → (s : State)
         → shown y₀ ≡ sub_by (λ b. b) s → Ran w m keys from (i + 1) s (sub_by v (shown y))
-    end-forward q b s p =
-        begun-end h b part s
+    end_forward q b s p =
+        begun_end h b part s
         (ap (sub_by v) (q.by ∙ ap (sub_by f) p) ∙ λ j. grid (λ a b. (k.forward (cell s a b) ∙ k.sub_seen (cell s a b)) j))
 
   -- a turn of a loop, back, by the row r
-  pub turn-back
+  pub turn_back
       : {m : ℕ} {keys : List (List ℕ)} {from count i j : ℕ} {s : State} {z : List ℕ} (x y : List ℕ) (r : ℕ) → j ≡ suc i → r ≡ from + i → from + i < m
       → Left w m keys from s count j (sub_by v (shown x)) → shown y ≡ unlinear (get_or keys r []) (shown x) → Worked g y z
       → Left w m keys from s count i (sub_by v (shown z))
-  turn-back {keys = keys} {from = from} {i = i} x y r p q h l e d =
+  turn_back {keys = keys} {from = from} {i = i} x y r p q h l e d =
       let t = get_or keys (from + i) [] in
       let f = e ∙ ap (λ (k : ℕ). unlinear (get_or keys k []) (shown x)) q in
       left_less p h l (λ low. ap (sub_by v) f ∙ unlinear_same t (shown x) (low (from + i) h))
@@ -153,11 +153,11 @@ second_cell : (a b : ℕ) → far (sub_pair (pair_of (near a) (near b))) ≡ sub
 second_cell a b = far_forward (pair_of (near a) (near b)) ∙ ap (sub Nibble) (far_pair (near a) (near b) (omega arith)) ∙ sub_near b
 
 -- where what is seen of two rows of nibbles in one is the row r, the linear part with both is seen as that with r
-pair-linear
+pair_linear
     : {v : ℕ → ℕ} → View v → v 34 ≡ 2 → (t u r : List ℕ) → ((j : ℕ) → v (bit_xor (get_or t j 0) (get_or u j 0 * 16)) ≡ get_or r j 0) → (s : State)
     → sub_by v (linear_by 34 (pair_row t u) s) ≡ linear r (sub_by v s)
 unfolding linear_by
-pair-linear {v} h two t u r e s =
+pair_linear {v} h two t u r e s =
     linear_view h 34 (pair_row t u) s ∙ λ i. linear_by (two i) (e 0 i ∷ e 1 i ∷ e 2 i ∷ e 3 i ∷ e 4 i ∷ e 5 i ∷ e 6 i ∷ e 7 i ∷ []) (sub_by v s)
 
 -- two rows of nibbles in one, seen
@@ -175,10 +175,10 @@ module _ (t u : List ℕ) (p : LowCells Nibble t) (q : LowCells Nibble u) where
       far_view.xor (get_or t j 0) (get_or u j 0 * 16) ∙ (λ i. bit_xor (a i) (b i))
 
   near_linear : (s : State) → sub_by near (linear_by 34 (pair_row t u) s) ≡ linear t (sub_by near s)
-  near_linear = pair-linear near_view refl t u t near_cell
+  near_linear = pair_linear near_view refl t u t near_cell
 
   far_linear : (s : State) → sub_by far (linear_by 34 (pair_row t u) s) ≡ linear u (sub_by far s)
-  far_linear = pair-linear far_view refl t u u far_cell
+  far_linear = pair_linear far_view refl t u u far_cell
 
 -- both states after so many rounds, the second from `later` on
 pub record BothBegun (m : ℕ) (keys : List (List ℕ)) (from later : ℕ) (x₀ : List ℕ) (i : ℕ) (x : List ℕ) : Type 0 where
@@ -209,6 +209,6 @@ module _ {m : ℕ} (keys : List (List ℕ)) (from later i : ℕ) (x y : List ℕ
       : {x₀ y₀ : List ℕ} → Worked sub_pair y₀ x₀ → BothBegun m keys from later x₀ i x → (s t : State) → shown y₀ ≡ sub_by (λ b. b) (paired s t)
       → Ran Nibble m keys from (i + 1) s (sub_by near (shown y)) × Ran Nibble m keys later (i + 1) t (sub_by far (shown y))
   end_both q b s t p = (
-    begun-end h b.first first_part s (ap (sub_by near) (q.by ∙ ap (sub_by sub_pair) p) ∙ λ j. grid (λ a b. first_cell (cell s a b) (cell t a b) j)),
-    begun-end l b.second second_part t (ap (sub_by far) (q.by ∙ ap (sub_by sub_pair) p) ∙ λ j. grid (λ a b. second_cell (cell s a b) (cell t a b) j)),
+    begun_end h b.first first_part s (ap (sub_by near) (q.by ∙ ap (sub_by sub_pair) p) ∙ λ j. grid (λ a b. first_cell (cell s a b) (cell t a b) j)),
+    begun_end l b.second second_part t (ap (sub_by far) (q.by ∙ ap (sub_by sub_pair) p) ∙ λ j. grid (λ a b. second_cell (cell s a b) (cell t a b) j)),
   )

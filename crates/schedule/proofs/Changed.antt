@@ -42,9 +42,9 @@ share_same
 share_same w Two t u e k j h = e j (omega arith)
 share_same w Three t u e k j h = ap₂ bit_xor (e j (omega arith)) (ap (times (step2 w) k) (e (16 + j) (omega arith)))
 
-off-first
+off_first
     : {w : Width} {n : Words} {d : ℕ} {t u : Tweakey} → LowCells w t.cells → LastChanged w n d t u → Off w n (change14 w d) (change15 w d) t u
-off-first {w} {n} {d} {t} {u} l c = record {
+off_first {w} {n} {d} {t} {u} l c = record {
   low = l;
   low' = c.low;
   share = share_same w n t.cells u.cells c.before;
@@ -130,10 +130,10 @@ module _ (w : Width) (n : Words) where
   key_at t i = round_key n (advance w n i t).cells
 
   -- row k of the sums
-  sums-changed
+  sums_changed
       : {x y : ℕ} {t u : Tweakey} (k : ℕ) → Off w n x y t u
       → sum_row w n u.cells k ≡ cell_xored 15 (times step (suc k) y) (cell_xored 14 (times step (suc k) x) (sum_row w n t.cells k))
-  sums-changed {x} {y} {t} {u} k o =
+  sums_changed {x} {y} {t} {u} k o =
       λ i. tab_same (sum u) (sum t) 14 0 same i ++ (changed 14 x (omega arith) o.cell14 i ∷ changed 15 y (omega arith) o.cell15 i ∷ []) where
         sum : Tweakey → ℕ → ℕ
         sum v = key_cell n (standing w n (suc k) v.cells)
@@ -160,10 +160,10 @@ module _ (w : Width) (n : Words) where
     in_turn : (v : Tweakey) (q r i : ℕ) → 16 * q + r ≡ i → round_key n (advance w n r (advance w n (16 * q) v)).cells ≡ key_at v i
     in_turn v q r i e = ap (λ (z : Tweakey). round_key n z.cells) (advance_add w n (16 * q) r v) ∙ ap (key_at v) e
 
-    odd-key
+    odd_key
         : (c : List ℕ) (s : ℕ)
         → xor_row c (key_at u (2 * s + 1)) ≡ corrected step places15 y s (corrected step places14 x s (xor_row c (key_at t (2 * s + 1))))
-    odd-key c s =
+    odd_key c s =
         let q = s / 8 in
         let k = s % 8 in
         let h : k < 8 = omega arith in
@@ -173,7 +173,7 @@ module _ (w : Width) (n : Words) where
         λ z. times_add step (suc k) (8 * q) z ∙ ap (λ (j : ℕ). times step j z) m in
         let now : (v : Tweakey) → lower (moved (k + 1) (sum_row w n (advance w n (16 * q) v).cells k)) ≡ key_at v (2 * s + 1) =
         λ v. first_sums w n (advance w n (16 * q) v) k h ∙ in_turn v q (2 * k + 1) (2 * s + 1) e in
-        ap (xor_row c) (sym (now u) ∙ ap (λ (r : List ℕ). lower (moved (k + 1) r)) (sums-changed k (off_turns q o)))
+        ap (xor_row c) (sym (now u) ∙ ap (λ (r : List ℕ). lower (moved (k + 1) r)) (sums_changed k (off_turns q o)))
         ∙ row_changed c (key_cell n (standing w n (suc k) (advance w n (16 * q) t).cells)) _ _ k h
         ∙ (λ i. cell_xored (get_or places15 k 0) (on y i) (cell_xored (get_or places14 k 0) (on x i) (xor_row c (now t i))))
 
@@ -189,25 +189,25 @@ module _ (w : Width) (n : Words) where
         let e : 16 * q + (2 * k + 2) ≡ 2 * suc s = omega arith in
         let now : (v : Tweakey) → upper (moved (k + 1) (sum_row w n (advance w n (16 * q) v).cells k)) ≡ key_at v (2 * suc s) =
         λ v. second_sums w n (advance w n (16 * q) v) k h ∙ in_turn v q (2 * k + 2) (2 * suc s) e in
-        sym (now u) ∙ ap (λ (r : List ℕ). upper (moved (k + 1) r)) (sums-changed k (off_turns q o))
+        sym (now u) ∙ ap (λ (r : List ℕ). upper (moved (k + 1) r)) (sums_changed k (off_turns q o))
         ∙ row_kept (key_cell n (standing w n (suc k) (advance w n (16 * q) t).cells)) _ _ k h ∙ now t
 
 -- the theorem: with the odd rows corrected for both cells, the keys are those of the changed tweakey
-pub keys-changed
+pub keys_changed
     : {w : Width} {n : Words} {d m b : ℕ} {t u : Tweakey} {before keys : List (List ℕ)}
     → OddRows (λ k r. corrected (tweak_step w n) places15 (change15 w d) k (corrected (tweak_step w n) places14 (change14 w d) k r)) 0 b before keys
     → m ≤ 2 * b + 1 → LastChanged w n d t u → RoundKeys w n m t before → RoundKeys w n m u keys
-keys-changed {w} {n} {d} {m} {b} {t} {u} {before} {keys} r h c known = record {
+keys_changed {w} {n} {d} {m} {b} {t} {u} {before} {keys} r h c known = record {
   first = c.first;
   low = c.low;
   at = λ i p. let s = i / 2 in elim (ℕ_discrete (2 * s) i) [
     | yes e ↦ subst Row e (r.even s ∙ known.at (2 * s) (omega arith) ∙ ap (xor_row (constant_row (constant (2 * s)))) (sym (even_key w n o s)))
     | no e ↦ subst Row (omega arith)
-        (r.odd s (omega arith) (omega arith) ∙ ap (both s) (known.at (2 * s + 1) (omega arith)) ∙ sym (odd-key w n o (constant_row (constant (2 * s + 1))) s))
+        (r.odd s (omega arith) (omega arith) ∙ ap (both s) (known.at (2 * s + 1) (omega arith)) ∙ sym (odd_key w n o (constant_row (constant (2 * s + 1))) s))
   ];
 } where
   o : Off w n (change14 w d) (change15 w d) t u
-  o = off-first known.low c
+  o = off_first known.low c
 
   Row : ℕ → Type 0
   Row i = get_or keys i [] ≡ xor_row (constant_row (constant i)) (round_key n (advance w n i u).cells)
@@ -223,11 +223,11 @@ unchanged k r = let p = get_or places14 (k % 8) 0 in ap (set r p) (ap (bit_xor (
   none zero = refl
   none (suc m) = ap (step2 Byte) (none m)
 
-pub byte-changed
+pub byte_changed
     : {d m b : ℕ} {t u : Tweakey} {before keys : List (List ℕ)} → OddRows (corrected (step2 Byte) places15 d) 0 b before keys
     → m ≤ 2 * b + 1 → LastChanged Byte Two d t u → RoundKeys Byte Two m t before → RoundKeys Byte Two m u keys
-byte-changed {d} {b = b} {before = before} {keys} r =
-    keys-changed {b = b} (record {
+byte_changed {d} {b = b} {before = before} {keys} r =
+    keys_changed {b = b} (record {
       long = r.long;
       odd = λ k p q. r.odd k p q ∙ ap (corrected (step2 Byte) places15 d k) (sym (unchanged k (get_or before (2 * k + 1) [])));
       front = r.front;

@@ -19,7 +19,7 @@ use Rattle.schedule.specs.Schedule.{key_row, round_key, advance, xor_row, RoundK
 use Rattle.schedule.specs.Sixteen.{moved, row_laid, pair_laid, Laid}
 use Rattle.schedule.specs.Share.{tweak_step, Parts, Summed, Along, Turn}
 use Rattle.schedule.proofs.Places.{advance_at, advance_add}
-use Rattle.schedule.proofs.Share.{first_row, along_first, along-sums, along_more}
+use Rattle.schedule.proofs.Share.{first_row, along_first, along_sums, along_more}
 use Rattle.schedule.proofs.Sixteen.{Sums, first_key, second_key}
 
 -- the key of round r, counted from the tweakey t
@@ -53,11 +53,11 @@ laid_more {w} {n} {t} {b} {x} {before} {keys} i q s h e = record {
 abbrev pub LaidTwo : ℕ → List (List ℕ) → ℕ → List (List ℕ) → List (List ℕ) → Type 0
 LaidTwo at sums k keys keys' = keys' ≡ pair_laid (at + 2 * k + 1) (moved (k + 1) (get_or sums k [])) keys
 
-laid-two
+laid_two
     : {w : Width} {n : Words} {t : Tweakey} {at : ℕ} {sums before keys keys' : List (List ℕ)} (k : ℕ)
     → Sums w n t.cells sums → (t.at ≡ at) × (at + 16 < length before)
     → T (ltb k 8) → Laid w n t (2 * k) before keys → LaidTwo at sums k keys keys' → Laid w n t (2 * (k + 1)) before keys'
-laid-two {w} {n} {t} {at} {sums} {before} {keys} {keys'} k s (q, h) p r e =
+laid_two {w} {n} {t} {at} {sums} {before} {keys} {keys'} k s (q, h) p r e =
     let l = ltb→lt k 8 p in
     let two : 2 * k + 1 + 1 ≡ 2 * (k + 1) = omega arith in
     let i = at + 2 * k + 1 in
@@ -67,14 +67,14 @@ laid-two {w} {n} {t} {at} {sums} {before} {keys} {keys'} k s (q, h) p r e =
     (laid_more (i + 1) (omega arith) (laid_more i (omega arith) r (omega arith) (first_key w t s k l)) (omega arith)
     (second_key w t s k l ∙ ap (key_at w n t) last)))
 
-laid-sixteen
+laid_sixteen
     : {w : Width} {n : Words} {t : Tweakey} {at : ℕ} {sums k₀ k₁ k₂ k₃ k₄ k₅ k₆ k₇ k₈ : List (List ℕ)}
     → Sums w n t.cells sums → (t.at ≡ at) × (at + 16 < length k₀)
     → LaidTwo at sums 0 k₀ k₁ → LaidTwo at sums 1 k₁ k₂ → LaidTwo at sums 2 k₂ k₃ → LaidTwo at sums 3 k₃ k₄
     → LaidTwo at sums 4 k₄ k₅ → LaidTwo at sums 5 k₅ k₆ → LaidTwo at sums 6 k₆ k₇ → LaidTwo at sums 7 k₇ k₈ → Laid w n t 16 k₀ k₈
-laid-sixteen s h e₀ e₁ e₂ e₃ e₄ e₅ e₆ e₇ =
-    let four = laid-two 3 s h tt (laid-two 2 s h tt (laid-two 1 s h tt (laid-two 0 s h tt laid_none e₀) e₁) e₂) e₃ in
-    laid-two 7 s h tt (laid-two 6 s h tt (laid-two 5 s h tt (laid-two 4 s h tt four e₄) e₅) e₆) e₇
+laid_sixteen s h e₀ e₁ e₂ e₃ e₄ e₅ e₆ e₇ =
+    let four = laid_two 3 s h tt (laid_two 2 s h tt (laid_two 1 s h tt (laid_two 0 s h tt laid_none e₀) e₁) e₂) e₃ in
+    laid_two 7 s h tt (laid_two 6 s h tt (laid_two 5 s h tt (laid_two 4 s h tt four e₄) e₅) e₆) e₇
 
 -- a turn is the tweak's steps and these calls
 pub turn
@@ -86,7 +86,7 @@ pub turn
 turn {u = u} {sums = sums} {k₀} {k₁} {k₂} {k₃} {k₄} {k₅} {k₆} {k₇} {k₈} (h, l) e s e₀ e₁ e₂ e₃ e₄ e₅ e₆ e₇ = record {
   on = e;
   long = two 7 k₇ k₈ e₇ ∙ two 6 k₆ k₇ e₆ ∙ two 5 k₅ k₆ e₅ ∙ two 4 k₄ k₅ e₄ ∙ two 3 k₃ k₄ e₃ ∙ two 2 k₂ k₃ e₂ ∙ two 1 k₁ k₂ e₁ ∙ two 0 k₀ k₁ e₀;
-  led = λ t a. (along_more a e s, laid-sixteen (along-sums h a s) (a.here, omega arith) e₀ e₁ e₂ e₃ e₄ e₅ e₆ e₇);
+  led = λ t a. (along_more a e s, laid_sixteen (along_sums h a s) (a.here, omega arith) e₀ e₁ e₂ e₃ e₄ e₅ e₆ e₇);
 } where
   two : (k : ℕ) (keys keys' : List (List ℕ)) → LaidTwo u.at sums k keys keys' → length keys' ≡ length keys
   two k keys keys' q = let i = u.at + 2 * k + 1 in ap length q ∙ length-set (set keys i _) (i + 1) _ ∙ length-set keys i _
@@ -159,12 +159,12 @@ module _ {w : Width} {n : Words} {share tweak : List ℕ} {before keys : List (L
   pub keys_long : {m : ℕ} {keys' : List (List ℕ)} → (m ≤ 87) × Room before → keys' ≡ row_laid 0 (xor_row share tweak) keys → length keys' ≡ 97
   keys_long (fit, room) e = ap length e ∙ length-set keys 0 (xor_row (get_or keys 0 []) (xor_row share tweak)) ∙ s.long ∙ room.long
 
-  pub keys-all
+  pub keys_all
       : {m : ℕ} {keys' : List (List ℕ)}
       → (m ≤ 87) × Room before → m ≤ u.at + 1 → keys' ≡ row_laid 0 (xor_row share tweak) keys
       → (t : Tweakey) → Parts w n t share tweak → RoundKeys w n m t keys'
   unfolding round_key advance
-  keys-all {m} {keys'} (fit, room) h e t p = record {
+  keys_all {m} {keys'} (fit, room) h e t p = record {
     first = p.first;
     low = p.low;
     at = λ k q. ap (λ (l : List (List ℕ)). get_or l k []) (e ∙ ap (λ (r : List ℕ). row_laid 0 r keys) (first_row p)) ∙ laid k q;

@@ -50,17 +50,17 @@ sum_xor i j a b =
 -- ---- steps
 
 -- a shift to the left, with a sum of two bits behind
-shift-xor
+shift_xor
     : (k i j a b : ℕ)
     → bit_xor a b % 2 ^ k * 2 ^ 1 + sum i j (bit_xor a b) ≡ bit_xor (a % 2 ^ k * 2 ^ 1 + sum i j a) (b % 2 ^ k * 2 ^ 1 + sum i j b)
-shift-xor k i j a b =
+shift_xor k i j a b =
     ap₂ (λ (x y : ℕ). x * 2 ^ 1 + y) (xor_mod a b k) (sum_xor i j a b)
     ∙ sym (xor_block 1 (a % 2 ^ k) (b % 2 ^ k) (sum i j a) (sum i j b) (odd _) (odd _))
 
 step2_xor : (w : Width) (a b : ℕ) → step2 w (bit_xor a b) ≡ bit_xor (step2 w a) (step2 w b)
 unfolding step2
-step2_xor Nibble = shift-xor 3 3 2
-step2_xor Byte = shift-xor 7 7 5
+step2_xor Nibble = shift_xor 3 3 2
+step2_xor Byte = shift_xor 7 7 5
 
 module _ (w : Width) where
   step3_xor : (a b : ℕ) → a < size w → b < size w → step3 w (bit_xor a b) ≡ bit_xor (step3 w a) (step3 w b)

@@ -16,10 +16,10 @@ use Rattle.schedule.specs.Change.{cell_laid, corrected, OddRows, CellOn}
 pub odd_none : {g : ℕ → List ℕ → List ℕ} {a : ℕ} {keys : List (List ℕ)} → OddRows g a a keys keys
 odd_none = record { long = refl; odd = λ k h l. absurd (omega arith); front = λ k h. refl; behind = λ k h. refl; even = λ k. refl }
 
-odd-more
+odd_more
     : {g : ℕ → List ℕ → List ℕ} {a b : ℕ} {before keys : List (List ℕ)} (i : ℕ)
     → i ≡ 2 * b + 1 → i < length before → a ≤ b → OddRows g a b before keys → OddRows g a (b + 1) before (set keys i (g b (get_or keys i [])))
-odd-more {g} {a} {b} {before} {keys} i e h m s = record {
+odd_more {g} {a} {b} {before} {keys} i e h m s = record {
   long = length-set keys i row ∙ s.long;
   odd = λ k p q. elim (ℕ_discrete k b) [
     | yes z ↦ rw (z, sym e) (get_or-set_same keys i row [] (omega (arith, s.long)) ∙ ap (g b) (here i e))
@@ -39,10 +39,10 @@ odd-more {g} {a} {b} {before} {keys} i e h m s = record {
   other r = get_or-set_other keys i r row []
 
 -- one run, and then another
-pub odd-on
+pub odd_on
     : {g : ℕ → List ℕ → List ℕ} {a b c : ℕ} {k₀ k₁ k₂ : List (List ℕ)}
     → a ≤ b → b ≤ c → OddRows g a b k₀ k₁ → OddRows g b c k₁ k₂ → OddRows g a c k₀ k₂
-odd-on {g} {a} {b} h l s r = record {
+odd_on {g} {a} {b} h l s r = record {
   long = r.long ∙ s.long;
   odd = λ k p q. elim (dec_lt k b) [
     | yes z ↦ r.front k z ∙ s.odd k p z
@@ -54,10 +54,10 @@ odd-on {g} {a} {b} h l s r = record {
 }
 
 -- the same run twice
-pub odd-both
+pub odd_both
     : {g h : ℕ → List ℕ → List ℕ} {a b : ℕ} {k₀ k₁ k₂ : List (List ℕ)}
     → OddRows g a b k₀ k₁ → OddRows h a b k₁ k₂ → OddRows (λ k r. h k (g k r)) a b k₀ k₂
-odd-both {h = h} s r = record {
+odd_both {h = h} s r = record {
   long = r.long ∙ s.long;
   odd = λ k p q. r.odd k p q ∙ ap (h k) (s.odd k p q);
   front = λ k p. r.front k p ∙ s.front k p;
@@ -71,10 +71,10 @@ module _ {f : ℕ → ℕ} {places : List ℕ} {i x : ℕ} {before : List (List 
   pub cell_none : CellOn f places i 0 x before x before
   cell_none = record { led = λ d e. let z : 8 * i + 0 ≡ 8 * i = omega arith in rw z (e, odd_none) }
 
-  pub cell-more
+  pub cell_more
       : {k y z : ℕ} {keys keys' : List (List ℕ)} → i < 6 → k < 8 → length before ≡ 97 → CellOn f places i k x before y keys
       → z ≡ f y → keys' ≡ cell_laid (16 * i + 2 * k + 1) (get_or places k 0) z keys → CellOn f places i (k + 1) x before z keys'
-  cell-more {k} {y} {z} {keys} {keys'} hi hk l s e q = record {
+  cell_more {k} {y} {z} {keys} {keys'} hi hk l s e q = record {
     led = λ d o.
         let (ey, r) = s.led d o in
         let b = 8 * i + k in
@@ -86,7 +86,7 @@ module _ {f : ℕ → ℕ} {places : List ℕ} {i x : ℕ} {before : List (List 
           w ∙ ap (λ (c : ℕ). times f c d) (sym (add-one b)),
           subst⁻¹ (OddRows (corrected f places d) (8 * i) (b + 1) before)
               (q ∙ (λ v. cell_laid j (get_or places (p v) 0) (w v) keys))
-              (odd-more j (omega arith) (omega arith) (omega arith) r),
+              (odd_more j (omega arith) (omega arith) (omega arith) r),
         );
   }
 

@@ -67,10 +67,10 @@ along_first {share = share} p = record {
 
 module _ {w : Width} {n : Words} {share : List ℕ} {u : Moving} where
   -- the sums of a turn
-  pub along-sums
+  pub along_sums
       : {t : Tweakey} {c : List ℕ} {sums : List (List ℕ)}
       → u.at < 81 → Along w n t share u → Summed (tweak_step w n) (u.at / 2 + 1) share u.cells c sums → Sums w n t.cells sums
-  along-sums {t} h a s = record {
+  along_sums {t} h a s = record {
     at = λ k j p q.
         let r : u.at / 2 + 1 + k ≡ u.at / 2 + suc k = omega arith in
         s.at k j p q

@@ -42,10 +42,10 @@ stood_none f row share t sums e r = record {
 
 module _ {f : ℕ → ℕ} {row : ℕ} {share t : List ℕ} {j k : ℕ} {c : List ℕ} {sums : List (List ℕ)} (s : Stood f row share t j k c sums) where
   -- a turn
-  pub stood-more
+  pub stood_more
       : {a : ℕ} → j < 16 → k < 8 → a ≡ f (get_or c j 0)
       → let d = set c j a in Stood f row share t j (k + 1) d (set sums k (set (get_or sums k []) j (bit_xor (get_or share (16 * (row + k) + j) 0) (get_or d j 0))))
-  stood-more {a} hj hk e =
+  stood_more {a} hj hk e =
       let d = set c j a in
       let old = get_or sums k [] in
       let v = bit_xor (get_or share (16 * (row + k) + j) 0) (get_or d j 0) in

@@ -33,10 +33,10 @@ told_passed : (k k' : ℕ) (t : Told) (room : List ℕ) → k ≡ k' → k ≡ 0
 told_passed k k' t room e z = sym (ap (λ (j : ℕ). passed j t room) (sym e ∙ z))
 
 -- the checks see the length of the key that a share was made of
-pub key-length
+pub key_length
     : (s : Scheme) (share : List ℕ) (nonce header body : ℕ) (short : Bool) (more room number : ℕ) → Fits s → number ≡ check_of s s.key nonce header body short more room
     → number ≡ check_of s (length (key_in s.cipher share)) nonce header body short more room
-key-length s share nonce header body short more room number f e =
+key_length s share nonce header body short more room number f e =
     e ∙ ap (λ (m : ℕ). check_of s m nonce header body short more room) (f.key ∙ sym (key_block s.cipher share).long)
 
 -- a key of another length is refused before all else but the scheme

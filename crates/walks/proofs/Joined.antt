@@ -12,7 +12,7 @@ use native.Mathlib.Omega.{arith}
 use lib.ListN.{length, take, drop, length-append, length-drop, take-append-drop}
 use lib.Seq.{length-take-le, take_all, drop_at}
 use Rattle.blocks.proofs.Parts.{part_rest, put_rest}
-use Rattle.blocks.proofs.Wrote.{Wrote, wrote_first, wrote-more}
+use Rattle.blocks.proofs.Wrote.{Wrote, wrote_first, wrote_more}
 use Rattle.modes.specs.Blocks.{pad}
 use Rattle.modes.specs.Mode.{join, end_block, end_tag}
 use Rattle.modes.proofs.Bytes.{pad_long, pad_full}
@@ -53,12 +53,12 @@ module _ (n l : ℕ) (x y old xs ys : List ℕ) (x_long : length x ≡ n) (y_lon
   unfolding join
   puts true ex ey =
       let front : after 0 old xs ≡ x ++ drop n old = put_rest 0 old xs ∙ ex ∙ ap (λ (t : List ℕ). x ++ drop n t) (part_rest 0 old) in
-      let w = wrote-more {out = x} {room₀ = old} (wrote_first n x_long (omega arith) front) l y ys y_long (omega arith) ey in
+      let w = wrote_more {out = x} {room₀ = old} (wrote_first n x_long (omega arith) front) l y ys y_long (omega arith) ey in
       put_as refl (omega arith) (record { said = w.said; long = w.reach })
   puts false ex ey =
       let kept : length (take l old) ≡ l = length-take-le l old (omega arith) in
       let old_is : Wrote (take l old) old l old = record { said = sym (take-append-drop l old); reach = kept; long = refl } in
-      let w = wrote-more old_is n x xs x_long fits ex in
+      let w = wrote_more old_is n x xs x_long fits ex in
       let mid = after l old xs in
       let back = drop (l + n) old in
       let behind : drop l mid ≡ x ++ back

@@ -167,10 +167,10 @@ module _ (c : Cipher) (k : Kind) (key nonce run : List ℕ) (start : State) (roo
     module _ (m : ℕ) (em : m ≡ size) (w : Walkable c k nonce run) (may : Openable size run room₀) where
       -- what a turn requires, and what it does
       module _ (h : m < length run - m - at) where
-        pub turn-may
+        pub turn_may
             : {share : List ℕ} {keys : List (List ℕ)} → Lent c share s.kept keys
             → Ready c k share nonce s keys × (size ≤ length part) × (size ≤ length (lent at room))
-        turn-may l =
+        turn_may l =
             let i = g.inside in
             let o = g.writing.wrote.long in
             let p = lent_long at run in
@@ -183,10 +183,10 @@ module _ (c : Cipher) (k : Kind) (key nonce run : List ℕ) (start : State) (roo
 
       -- what the end requires, and what it comes to
       module _ (h : length run - m - at ≤ m) where
-        pub end-may
+        pub end_may
             : {share : List ℕ} {keys : List (List ℕ)} → Lent c share s.kept keys
             → Ready c k share nonce s keys × Openable size part (lent at room) × (length part ≤ size + size)
-        end-may l =
+        end_may l =
             let i = g.inside in
             let o = g.writing.wrote.long in
             let p = lent_long at run in

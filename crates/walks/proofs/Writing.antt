@@ -4,7 +4,7 @@ use mathlib.Core.Path.{◌≡◌, refl}
 use mathlib.Core.List.{List, [], ◌++◌}
 use Prim.Native.Nat.{ℕ, ◌+◌, ◌≤◌}
 use lib.ListN.{length}
-use Rattle.blocks.proofs.Wrote.{Wrote, wrote_none, wrote-more}
+use Rattle.blocks.proofs.Wrote.{Wrote, wrote_none, wrote_more}
 use Rattle.walks.specs.Walks.{Put}
 use Rattle.walks.proofs.Answered.{put_as}
 use Rattle.walks.proofs.Places.{lent, after}
@@ -21,7 +21,7 @@ writing_none P room h = record { done = []; holds = h; wrote = wrote_none room }
 module _ {P : List ℕ → Type 0} {room₀ room : List ℕ} {at : ℕ} (w : Writing P room₀ at room) {n : ℕ} {x ys : List ℕ}
     (p : Put x n (lent at room) ys) (fits : at + n ≤ length room₀) where
   more : Wrote (w.done ++ x) room₀ (at + n) (after at room ys)
-  more = wrote-more w.wrote n x ys p.long fits p.said
+  more = wrote_more w.wrote n x ys p.long fits p.said
 
   -- a turn
   pub writing_more : (Q : List ℕ → Type 0) → ((done : List ℕ) → P done → Q (done ++ x)) → Writing Q room₀ (at + n) (after at room ys)

@@ -3,7 +3,7 @@
 use Prim.Native.Nat.{◌≤◌, ◌-◌}
 use native.Mathlib.Omega.{arith}
 use lib.ListN.{length}
-use Rattle.blocks.proofs.Collected.{Collected, collected_none, collected-more, collected_all, not_same}
+use Rattle.blocks.proofs.Collected.{Collected, collected_none, collected_more, collected_all, not_same}
 use Rattle.blocks.proofs.differences.Statement.{statement}
 use Rattle.blocks.proofs.differences.Tie as tie
 
@@ -32,7 +32,7 @@ loop_less : tie.Need-loop-smaller invariant_loop decreases_loop
 loop_less c = omega arith
 
 loop_again : tie.Need-loop-preserved invariant_loop decreases_loop
-loop_again c = (collected-more c.before.before.before.loop.invariant.0 (omega arith), omega arith)
+loop_again c = (collected_more c.before.before.before.loop.invariant.0 (omega arith), omega arith)
 
 returns_2 : tie.Need-returns-2 invariant_loop decreases_loop
 returns_2 c = collected_all c.before.loop.invariant.0 (omega arith)

@@ -1,8 +1,8 @@
--- `blocks::load` meets its contract: a short part by `load-short`, any other by `load_full`.
+-- `blocks::load` meets its contract: a short part by `load_short`, any other by `load_full`.
 -- Assumes nothing.
 use borrow.Author.Rules.{rules}
 use native.Mathlib.Omega.{arith}
-use Rattle.blocks.proofs.Loaded.{load_full, load-short}
+use Rattle.blocks.proofs.Loaded.{load_full, load_short}
 use Rattle.blocks.proofs.load.Statement.{statement}
 use Rattle.blocks.proofs.load.Tie as tie
 
@@ -13,7 +13,7 @@ array_write_b : tie.Need-array-write-b
 array_write_b c = search rules
 
 returns : tie.Need-returns
-returns c = rw c.front.ensures (load-short _ _ (omega arith) (omega arith))
+returns c = rw c.front.ensures (load_short _ _ (omega arith) (omega arith))
 
 front_requires_2 : tie.Need-front-requires-2
 front_requires_2 c κs = search rules

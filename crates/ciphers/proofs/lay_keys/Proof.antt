@@ -17,10 +17,10 @@ LaidBy m share keys c cells =
     (length keys ≡ 97) × ((t : Tweakey) → Parts (width_of c) (words_of c) t share cells → RoundKeys (width_of c) (words_of c) m t keys)
 
 -- what was laid under the cipher that c is, from the cells that the tweak has under it
-by-case
+by_case
     : (tweak : List ℕ) {m : ℕ} {share cells : List ℕ} {keys : List (List ℕ)} {c d : Cipher} → c ≡ d → cells ≡ tweak_cells d tweak → LaidBy m share keys d cells
     → LaidBy m share keys c (tweak_cells c tweak)
-by-case tweak {m} {share} {keys = keys} {d = d} e f laid =
+by_case tweak {m} {share} {keys = keys} {d = d} e f laid =
     subst⁻¹ (λ (x : Cipher). LaidBy m share keys x (tweak_cells x tweak)) e (subst (LaidBy m share keys d) f laid)
 
 enum_told : tie.Need-enum-told
@@ -44,12 +44,12 @@ lay_keys_128_256_requires c κs = search rules
 returns : tie.Need-returns
 unfolding tweak_cells
 returns c =
-    by-case c.before.before.before.before.before.args.tweak c.before.before.before.enum_told.given.1 c.before.tweak-nibbles.ensures c.lay-keys-64-192.ensures
+    by_case c.before.before.before.before.before.args.tweak c.before.before.before.enum_told.given.1 c.before.tweak-nibbles.ensures c.lay-keys-64-192.ensures
 
 returns_2 : tie.Need-returns-2
 unfolding tweak_cells
 returns_2 c =
-    by-case c.before.before.before.before.before.args.tweak c.before.before.before.enum-told2.given.1 c.before.tweak-bytes.ensures c.lay-keys-128-256.ensures
+    by_case c.before.before.before.before.before.args.tweak c.before.before.before.enum-told2.given.1 c.before.tweak-bytes.ensures c.lay-keys-128-256.ensures
 
 pub lay_keys_spec : {M : Type 1} → statement M
 lay_keys_spec =

@@ -1,7 +1,7 @@
 -- `forkskinny::fork_by` meets its contract: the keys are laid for the rounds that it takes. Assumes nothing.
 use Rattle.prepared.specs.Prepared.{key_in}
 use Rattle.forkskinny.specs.Reach.{fork_reach}
-use Rattle.forkskinny.proofs.Parts.{turned-keys}
+use Rattle.forkskinny.proofs.Parts.{turned_keys}
 use borrow.Author.Rules.{rules}
 use Rattle.forkskinny.proofs.fork_by.Statement.{statement}
 use Rattle.forkskinny.proofs.fork_by.Tie as tie
@@ -21,7 +21,7 @@ fork_laid_requires c κs = search rules
 returns : tie.Need-returns
 returns c =
     let a = c.before.before.before.before.before.before.args in
-    c.fork-laid.ensures (key_in a.c a.share.now) a.tweak (turned-keys a.c (fork_reach a.c a.want) c.before.before.lay.ensures c.before.before.before.before.before.fork-reach.ensures.0)
+    c.fork-laid.ensures (key_in a.c a.share.now) a.tweak (turned_keys a.c (fork_reach a.c a.want) c.before.before.lay.ensures c.before.before.before.before.before.fork-reach.ensures.0)
 
 pub fork_by_spec : {M : Type 1} → statement M
 fork_by_spec =

@@ -1,5 +1,5 @@
 -- `forkskinny::fork_laid` meets its contract: its parts make the answer. Assumes nothing.
-use Rattle.forkskinny.proofs.Parts.{fork-parts, fork-both}
+use Rattle.forkskinny.proofs.Parts.{fork_parts, fork_both}
 use borrow.Author.Rules.{rules}
 use Rattle.forkskinny.proofs.fork_laid.Statement.{statement}
 use Rattle.forkskinny.proofs.fork_laid.Tie as tie
@@ -16,7 +16,7 @@ fork_rounds_requires c κs = search rules
 returns : tie.Need-returns
 returns c =
     let a = c.before.before.before.before.before.before.args in
-    fork-both a.c a.block a.want c.before.before.before.before.if1.true c.before.before.before.before.before.to-fork.ensures c.before.before.before.both_halves.ensures c.fork-rounds.ensures
+    fork_both a.c a.block a.want c.before.before.before.before.if1.true c.before.before.before.before.before.to-fork.ensures c.before.before.before.both_halves.ensures c.fork-rounds.ensures
 
 is_wanted_requires : tie.Need-is-wanted-requires
 is_wanted_requires c κs = search rules
@@ -36,7 +36,7 @@ fork_rounds_requires_2 c κs = search rules
 returns_2 : tie.Need-returns-2
 returns_2 c =
     let a = c.before.before.before.before.before.before.before.args in
-    fork-parts a.c a.block a.want c.before.before.before.before.is-wanted.ensures c.before.before.is-wanted2.ensures c.before.before.before.before.before.before.to-fork.ensures c.before.before.before.half-if.ensures
+    fork_parts a.c a.block a.want c.before.before.before.before.is-wanted.ensures c.before.before.is-wanted2.ensures c.before.before.before.before.before.before.to-fork.ensures c.before.before.before.half-if.ensures
     c.before.half-if2.ensures c.fork-rounds2.ensures
 
 pub fork_laid_spec : {M : Type 1} → statement M

@@ -1,7 +1,7 @@
 -- `forkskinny::fork_on` meets its contract: the room is turned to the tweak, for the rounds that the call takes. Assumes nothing.
 use Rattle.prepared.specs.Prepared.{key_in}
 use Rattle.forkskinny.specs.Reach.{fork_reach}
-use Rattle.forkskinny.proofs.Parts.{turned-keys}
+use Rattle.forkskinny.proofs.Parts.{turned_keys}
 use borrow.Author.Rules.{rules}
 use Rattle.forkskinny.proofs.fork_on.Statement.{statement}
 use Rattle.forkskinny.proofs.fork_on.Tie as tie
@@ -20,7 +20,7 @@ returns c =
     let start = c.before.before.before.before.before in
     let a = start.args in
     let t = c.before.before.turn-to.ensures in (
-      c.fork-laid.ensures (key_in a.c a.share.now) a.tweak (turned-keys a.c (fork_reach a.c a.want) t c.before.before.before.before.fork-reach.ensures.0),
+      c.fork-laid.ensures (key_in a.c a.share.now) a.tweak (turned_keys a.c (fork_reach a.c a.want) t c.before.before.before.before.fork-reach.ensures.0),
       record { made = start.requires.made; keeps = t.keeps },
     )
 

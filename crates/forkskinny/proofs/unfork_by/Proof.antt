@@ -1,7 +1,7 @@
 -- `forkskinny::unfork_by` meets its contract: the keys are laid for the rounds that it takes. Assumes nothing.
 use Rattle.prepared.specs.Prepared.{key_in}
 use Rattle.forkskinny.specs.Reach.{unfork_reach}
-use Rattle.forkskinny.proofs.Parts.{turned-keys}
+use Rattle.forkskinny.proofs.Parts.{turned_keys}
 use borrow.Author.Rules.{rules}
 use Rattle.forkskinny.proofs.unfork_by.Statement.{statement}
 use Rattle.forkskinny.proofs.unfork_by.Tie as tie
@@ -21,7 +21,7 @@ unfork_laid_requires c κs = search rules
 returns : tie.Need-returns
 returns c =
     let a = c.before.before.before.before.before.before.args in
-    c.unfork-laid.ensures (key_in a.c a.share.now) a.tweak (turned-keys a.c (unfork_reach a.c a.from a.want) c.before.before.lay.ensures c.before.before.before.before.before.unfork-reach.ensures.0)
+    c.unfork-laid.ensures (key_in a.c a.share.now) a.tweak (turned_keys a.c (unfork_reach a.c a.from a.want) c.before.before.lay.ensures c.before.before.before.before.before.unfork-reach.ensures.0)
 
 pub unfork_by_spec : {M : Type 1} → statement M
 unfork_by_spec =

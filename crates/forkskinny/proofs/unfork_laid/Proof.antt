@@ -1,5 +1,5 @@
 -- `forkskinny::unfork_laid` meets its contract: its parts make the answer. Assumes nothing.
-use Rattle.forkskinny.proofs.Parts.{unfork-parts, unfork-both}
+use Rattle.forkskinny.proofs.Parts.{unfork_parts, unfork_both}
 use borrow.Author.Rules.{rules}
 use Rattle.forkskinny.proofs.unfork_laid.Statement.{statement}
 use Rattle.forkskinny.proofs.unfork_laid.Tie as tie
@@ -25,7 +25,7 @@ unfork_rounds_requires c κs = search rules
 returns : tie.Need-returns
 returns c =
     let a = c.before.before.before.before.before.before.before.before.before.args in
-    unfork-both a.c a.block a.from a.want c.before.before.before.before.before.if1.true c.before.before.before.before.before.before.before.side-of.ensures c.before.before.before.before.before.before.before.before.other-of.ensures c.before.before.before.before.side-of2.ensures
+    unfork_both a.c a.block a.from a.want c.before.before.before.before.before.if1.true c.before.before.before.before.before.before.before.side-of.ensures c.before.before.before.before.before.before.before.before.other-of.ensures c.before.before.before.before.side-of2.ensures
     c.before.before.before.before.before.before.unrun-branch.ensures c.before.before.before.both_ends.ensures c.unfork-rounds.ensures
 
 is_wanted_requires : tie.Need-is-wanted-requires
@@ -46,7 +46,7 @@ unfork_rounds_requires_2 c κs = search rules
 returns_2 : tie.Need-returns-2
 returns_2 c =
     let a = c.before.before.before.before.before.before.before.before.before.args in
-    unfork-parts a.c a.block a.from a.want c.before.before.before.before.is-wanted.ensures c.before.before.is-wanted2.ensures c.before.before.before.before.before.before.before.side-of.ensures c.before.before.before.before.before.before.before.before.other-of.ensures
+    unfork_parts a.c a.block a.from a.want c.before.before.before.before.is-wanted.ensures c.before.before.is-wanted2.ensures c.before.before.before.before.before.before.before.side-of.ensures c.before.before.before.before.before.before.before.before.other-of.ensures
     c.before.before.before.before.before.before.unrun-branch.ensures c.before.before.before.input-if.ensures c.before.half-if.ensures c.unfork-rounds2.ensures
 
 pub unfork_laid_spec : {M : Type 1} → statement M

@@ -1,7 +1,7 @@
 -- `forkskinny::unfork_on` meets its contract: the room is turned to the tweak, for the rounds that the call takes. Assumes nothing.
 use Rattle.prepared.specs.Prepared.{key_in}
 use Rattle.forkskinny.specs.Reach.{unfork_reach}
-use Rattle.forkskinny.proofs.Parts.{turned-keys}
+use Rattle.forkskinny.proofs.Parts.{turned_keys}
 use borrow.Author.Rules.{rules}
 use Rattle.forkskinny.proofs.unfork_on.Statement.{statement}
 use Rattle.forkskinny.proofs.unfork_on.Tie as tie
@@ -20,7 +20,7 @@ returns c =
     let start = c.before.before.before.before.before in
     let a = start.args in
     let t = c.before.before.turn-to.ensures in (
-      c.unfork-laid.ensures (key_in a.c a.share.now) a.tweak (turned-keys a.c (unfork_reach a.c a.from a.want) t c.before.before.before.before.unfork-reach.ensures.0),
+      c.unfork-laid.ensures (key_in a.c a.share.now) a.tweak (turned_keys a.c (unfork_reach a.c a.from a.want) t c.before.before.before.before.unfork-reach.ensures.0),
       record { made = start.requires.made; keeps = t.keeps },
     )
 

@@ -2,7 +2,7 @@
 use mathlib.Core.Path.{sym}
 use native.Mathlib.Omega.{arith}
 use lib.ListN.{length-take}
-use Rattle.blocks.proofs.Wrote.{wrote_first, wrote-more}
+use Rattle.blocks.proofs.Wrote.{wrote_first, wrote_more}
 use Rattle.lines.specs.Line.{field_of}
 use borrow.Author.Rules.{rules}
 use Rattle.lines.proofs.line.Statement.{statement}
@@ -57,8 +57,8 @@ returns c =
     let third = after_output.output.ensures in
     let a = after_field.before.before.before.before.args in
     let one = wrote_first {x = field_of a.number} {room₀ = a.text.now} _ (sym first.1.0) (omega arith) first.1.1 in
-    let two = wrote-more one _ _ _ (sym second.1.0) (omega arith) second.1.1 in
-    let three = wrote-more two _ _ _ (sym third.1.0) (omega arith) third.1.1 in
+    let two = wrote_more one _ _ _ (sym second.1.0) (omega arith) second.1.1 in
+    let three = wrote_more two _ _ _ (sym third.1.0) (omega arith) third.1.1 in
     ((omega arith, simp length-take (omega arith)), (sym three.reach, three.said))
 
 pub line_spec : {M : Type 1} → statement M

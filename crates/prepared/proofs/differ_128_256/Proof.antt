@@ -2,7 +2,7 @@
 use mathlib.Core.Path.{sym}
 use native.Mathlib.Omega.{arith}
 use lib.Seq.{length-take-le}
-use Rattle.prepared.proofs.Found.{differs-128-256}
+use Rattle.prepared.proofs.Found.{differs_128_256}
 use borrow.Author.Rules.{rules}
 use Rattle.prepared.proofs.differ_128_256.Statement.{statement}
 use Rattle.prepared.proofs.differ_128_256.Tie as tie
@@ -28,7 +28,7 @@ differences_requires c κs = search rules
 returns : tie.Need-returns
 returns c =
     let k = c.before.before.before in
-    differs-128-256 k.before.before.args.share.now c.differences.result k.bytes-known.ensures (omega arith) c.differences.ensures
+    differs_128_256 k.before.before.args.share.now c.differences.result k.bytes-known.ensures (omega arith) c.differences.ensures
 
 pub differ_128_256_spec : {M : Type 1} → statement M
 differ_128_256_spec =

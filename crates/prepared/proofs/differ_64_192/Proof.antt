@@ -8,7 +8,7 @@ use lib.Seq.{length-take-le}
 use Rattle.ciphers.specs.declared.Cipher.TheVariants.{N64T192}
 use Rattle.ciphers.specs.Ciphers.{tk}
 use Rattle.prepared.specs.Prepared.{unmoving, shares_of, joined, key_in}
-use Rattle.prepared.proofs.Found.{room_long, differs-64-192}
+use Rattle.prepared.proofs.Found.{room_long, differs_64_192}
 use borrow.Author.Rules.{rules}
 use Rattle.prepared.proofs.differ_64_192.Statement.{statement}
 use Rattle.prepared.proofs.differ_64_192.Tie as tie
@@ -65,7 +65,7 @@ returns c =
     let s = k.before.before.before.args.share.now in
     let key = k.before.join.ensures ∙ ap joined k.before.before.words-in.ensures in
     let t = k.load-key.ensures ∙ ap (λ (x : List ℕ). tk N64T192 x unmoving) key in
-    differs-64-192 s (replicate 784 0) d.differences.result c.differences2.result (omega arith)
+    differs_64_192 s (replicate 784 0) d.differences.result c.differences2.result (omega arith)
     (l.lay-64-192.ensures ∙ (λ i. take 240 (shares_of N64T192 (t i).cells) ++ drop 240 (replicate 784 0)))
     d.differences.ensures c.differences2.ensures
 

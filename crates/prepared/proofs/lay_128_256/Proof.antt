@@ -4,7 +4,7 @@ use mathlib.Core.List.{List}
 use Prim.Native.Nat.{ℕ, ◌*◌, ◌+◌, ◌-◌, ◌≤◌}
 use native.Mathlib.Omega.{arith}
 use Rattle.ciphers.specs.declared.Cipher.TheVariants.{N128T256}
-use Rattle.prepared.proofs.Loops.{SharesLaid, shares_none, shares-more, shares_next, shares_all}
+use Rattle.prepared.proofs.Loops.{SharesLaid, shares_none, shares_more, shares_next, shares_all}
 use Rattle.prepared.proofs.lay_128_256.Statement.{statement}
 use Rattle.prepared.proofs.lay_128_256.Tie as tie
 
@@ -48,7 +48,7 @@ loop2_less c = omega arith
 loop2_again : tie.Need-loop2-preserved invariant_loop2 decreases_loop2 invariant_loop decreases_loop
 loop2_again c =
     let l = c.before in
-    (omega arith, λ d s. shares-more N128T256 _ _ _ _ l.before.loop-test.true c.loop2-test.true refl (l.loop2.invariant.1 d s))
+    (omega arith, λ d s. shares_more N128T256 _ _ _ _ l.before.loop-test.true c.loop2-test.true refl (l.loop2.invariant.1 d s))
 
 add_k : tie.Need-overflow-add-k invariant_loop2 decreases_loop2 invariant_loop decreases_loop
 add_k c = omega arith

@@ -3,7 +3,7 @@ use Prim.Native.Nat.{ℕ, ◌*◌, ◌+◌, ◌-◌, ◌≤◌}
 use mathlib.Core.List.{List}
 use native.Mathlib.Omega.{arith}
 use Rattle.ciphers.specs.declared.Cipher.TheVariants.{N64T192}
-use Rattle.prepared.proofs.Loops.{SharesLaid, shares_none, shares-more, shares_next, shares_rows, Stepped, stepped_none, stepped_cell, stepped_more, stepped_next}
+use Rattle.prepared.proofs.Loops.{SharesLaid, shares_none, shares_more, shares_next, shares_rows, Stepped, stepped_none, stepped_cell, stepped_more, stepped_next}
 use Rattle.prepared.proofs.lay_64_192.Statement.{statement}
 use Rattle.prepared.proofs.lay_64_192.Tie as tie
 
@@ -74,7 +74,7 @@ loop2_again c =
     let k = l.before.loop-test.true in (
       omega arith,
       λ t d s w. let (a, b) = l.loop2.invariant.1 t d s w in
-          (shares-more N64T192 _ _ _ _ (omega arith) h (stepped_cell b h) a, stepped_more b _ h c.left_nibble.ensures),
+          (shares_more N64T192 _ _ _ _ (omega arith) h (stepped_cell b h) a, stepped_more b _ h c.left_nibble.ensures),
     )
 
 add_k : tie.Need-overflow-add-k invariant_loop2 decreases_loop2 invariant_loop decreases_loop

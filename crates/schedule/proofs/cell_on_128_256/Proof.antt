@@ -3,7 +3,7 @@ use Prim.Native.Nat.{◌-◌, ◌<◌, ◌≤◌}
 use native.Mathlib.Omega.{arith}
 use Rattle.cells.specs.Cells.{Byte, step2}
 use Rattle.schedule.specs.Change.{CellOn}
-use Rattle.schedule.proofs.OddRows.{cell_none, cell-more, cell_all}
+use Rattle.schedule.proofs.OddRows.{cell_none, cell_more, cell_all}
 use Rattle.schedule.proofs.cell_on_128_256.Statement.{statement}
 use Rattle.schedule.proofs.cell_on_128_256.Tie as tie
 
@@ -52,7 +52,7 @@ loop_again : tie.Need-loop-preserved invariant_loop decreases_loop
 loop_again c =
     let l = c.before.before.before.before in
     let k : l.loop.k < 8 = omega arith in
-    (omega arith, cell-more l.before.requires.0 k l.before.requires.1 l.loop.invariant.1 c.before.before.left_byte.ensures c.lay-cell.ensures)
+    (omega arith, cell_more l.before.requires.0 k l.before.requires.1 l.loop.invariant.1 c.before.before.left_byte.ensures c.lay-cell.ensures)
 
 returns : tie.Need-returns invariant_loop decreases_loop
 returns c = let l = c.before.loop in cell_all l.invariant.0 c.loop-test.false l.invariant.1

@@ -7,8 +7,8 @@ use native.Mathlib.Omega.{arith}
 use Rattle.cells.specs.Cells.{Byte, step2}
 use Rattle.schedule.specs.Sixteen.{times}
 use Rattle.schedule.specs.Change.{places15, corrected, OddRows}
-use Rattle.schedule.proofs.Changed.{byte-changed}
-use Rattle.schedule.proofs.OddRows.{odd_none, odd-on, cell_turn}
+use Rattle.schedule.proofs.Changed.{byte_changed}
+use Rattle.schedule.proofs.OddRows.{odd_none, odd_on, cell_turn}
 use Rattle.schedule.proofs.Trails.{stays}
 use Rattle.schedule.proofs.change_last_128_256.Statement.{statement}
 use Rattle.schedule.proofs.change_last_128_256.Tie as tie
@@ -42,10 +42,10 @@ loop_less c = omega arith
 loop_again : tie.Need-loop-preserved invariant_loop decreases_loop
 loop_again c =
     let (h, e, s) = c.before.before.before.loop.invariant in
-    let (e', r) = cell_turn c.cell-on-128-256.ensures e in (omega arith, e', odd-on (omega arith) (omega arith) s r)
+    let (e', r) = cell_turn c.cell-on-128-256.ensures e in (omega arith, e', odd_on (omega arith) (omega arith) s r)
 
 returns : tie.Need-returns invariant_loop decreases_loop
-returns c = let l = c.before.loop in (l.invariant.2.long ∙ c.before.before.requires.1, λ t u. byte-changed {b = 8 * l.i} l.invariant.2 (omega arith))
+returns c = let l = c.before.loop in (l.invariant.2.long ∙ c.before.before.requires.1, λ t u. byte_changed {b = 8 * l.i} l.invariant.2 (omega arith))
 
 pub change_last_128_256_spec : {M : Type 1} → statement M
 change_last_128_256_spec =

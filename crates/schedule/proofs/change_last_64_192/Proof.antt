@@ -7,8 +7,8 @@ use native.Mathlib.Omega.{arith}
 use Rattle.cells.specs.Cells.{Nibble, step3}
 use Rattle.schedule.specs.Sixteen.{times}
 use Rattle.schedule.specs.Change.{places14, places15, corrected, OddRows}
-use Rattle.schedule.proofs.Changed.{keys-changed}
-use Rattle.schedule.proofs.OddRows.{odd_none, odd-on, odd-both, cell_turn}
+use Rattle.schedule.proofs.Changed.{keys_changed}
+use Rattle.schedule.proofs.OddRows.{odd_none, odd_on, odd_both, cell_turn}
 use Rattle.schedule.proofs.Trails.{stays}
 use Rattle.schedule.proofs.change_last_64_192.Statement.{statement}
 use Rattle.schedule.proofs.change_last_64_192.Tie as tie
@@ -53,10 +53,10 @@ loop_again c =
     let (h, e, g, s) = c.before.before.before.before.before.loop.invariant in
     let (e', r) = cell_turn c.before.before.cell-on-64-192.ensures e in
     let (g', q) = cell_turn c.cell-on-64-1922.ensures g in
-    (omega arith, e', g', odd-on (omega arith) (omega arith) s (odd-both r q))
+    (omega arith, e', g', odd_on (omega arith) (omega arith) s (odd_both r q))
 
 returns : tie.Need-returns invariant_loop decreases_loop
-returns c = let l = c.before.loop in (l.invariant.3.long ∙ c.before.before.requires.1, λ t u. keys-changed {b = 8 * l.i} l.invariant.3 (omega arith))
+returns c = let l = c.before.loop in (l.invariant.3.long ∙ c.before.before.requires.1, λ t u. keys_changed {b = 8 * l.i} l.invariant.3 (omega arith))
 
 pub change_last_64_192_spec : {M : Type 1} → statement M
 change_last_64_192_spec =

@@ -4,7 +4,7 @@ use Prim.Native.Nat.{ℕ, ◌-◌}
 use mathlib.Core.List.{List}
 use native.Mathlib.Omega.{arith}
 use Rattle.cells.specs.Cells.{Byte, step2}
-use Rattle.schedule.proofs.Standing.{Stood, stood_none, stood-more, stood_next, stood_all}
+use Rattle.schedule.proofs.Standing.{Stood, stood_none, stood_more, stood_next, stood_all}
 use Rattle.schedule.proofs.eight_steps_128_256.Statement.{statement}
 use Rattle.schedule.proofs.eight_steps_128_256.Tie as tie
 
@@ -68,7 +68,7 @@ loop2_less c = omega arith
 loop2_again : tie.Need-loop2-preserved invariant_loop2 decreases_loop2 invariant_loop decreases_loop
 loop2_again c =
     let l = c.before.before.before in
-    λ t s. stood-more (l.loop2.invariant t s) l.before.loop-test.true c.before.before.loop2-test.true c.before.left_byte.ensures
+    λ t s. stood_more (l.loop2.invariant t s) l.before.loop-test.true c.before.before.loop2-test.true c.before.left_byte.ensures
 
 add_j : tie.Need-overflow-add-j invariant_loop2 decreases_loop2 invariant_loop decreases_loop
 add_j c = omega arith

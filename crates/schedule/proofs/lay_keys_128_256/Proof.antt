@@ -3,7 +3,7 @@ use mathlib.Core.Path.{◌∙◌}
 use Prim.Native.Nat.{◌-◌}
 use native.Mathlib.Omega.{arith}
 use Rattle.cells.specs.Cells.{Byte, Two}
-use Rattle.schedule.proofs.Keys.{Keys, keys_none, keys_more, keys_long, keys-all}
+use Rattle.schedule.proofs.Keys.{Keys, keys_none, keys_more, keys_long, keys_all}
 use Rattle.schedule.proofs.lay_keys_128_256.Statement.{statement}
 use Rattle.schedule.proofs.lay_keys_128_256.Tie as tie
 
@@ -36,7 +36,7 @@ lay_first_requires c κs = tt
 returns : tie.Need-returns invariant_loop decreases_loop
 returns c =
     let l = c.before.before.before.before in
-    (keys_long l.loop.invariant l.before.requires c.lay-first.ensures, keys-all l.loop.invariant l.before.requires (omega arith) c.lay-first.ensures)
+    (keys_long l.loop.invariant l.before.requires c.lay-first.ensures, keys_all l.loop.invariant l.before.requires (omega arith) c.lay-first.ensures)
 
 pub lay_keys_128_256_spec : {M : Type 1} → statement M
 lay_keys_128_256_spec =

@@ -6,7 +6,7 @@ use borrow.Author.Tests.{ltb-false}
 use Rattle.ciphers.proofs.Laws.{block_most}
 use Rattle.prepared.specs.Prepared.{key_in}
 use Rattle.schemes.proofs.Passed.{check_passed, check_long}
-use Rattle.sealing.proofs.Answers.{key-length, open_refuses, open_does, open_forges}
+use Rattle.sealing.proofs.Answers.{key_length, open_refuses, open_does, open_forges}
 use borrow.Author.Rules.{rules}
 use Rattle.sealing.proofs.open_under.Statement.{statement}
 use Rattle.sealing.proofs.open_under.Tie as tie
@@ -30,7 +30,7 @@ returns c =
     let start = after_block_of.before.before.before.before.before in
     let a = start.args in
     open_refuses a.s (key_in a.s.cipher a.share.now) a.nonce.now a.header.now _ after_block_of.block_of.ensures _ a.sealed.now
-    a.room.now _ _ after_body_of.body_of.ensures refl (key-length a.s a.share.now _ _ _ _ _ _ _ start.requires.0 c.before.check.ensures) c.if1.true
+    a.room.now _ _ after_body_of.body_of.ensures refl (key_length a.s a.share.now _ _ _ _ _ _ _ start.requires.0 c.before.check.ensures) c.if1.true
 
 rounds_requires : tie.Need-rounds-requires
 rounds_requires c κs =
@@ -77,7 +77,7 @@ returns_2 c =
     let start = after_block_of.before.before.before.before.before in
     let a = start.args in
     open_does a.s (key_in a.s.cipher a.share.now) a.nonce.now a.header.now _ after_block_of.block_of.ensures _ a.sealed.now
-    a.room.now _ _ after_body_of.body_of.ensures refl (key-length a.s a.share.now _ _ _ _ _ _ _ start.requires.0 after_check.check.ensures)
+    a.room.now _ _ after_body_of.body_of.ensures refl (key_length a.s a.share.now _ _ _ _ _ _ _ start.requires.0 after_check.check.ensures)
     test.if1.false _ refl _ _
     after_open.«open».ensures _ after_rounds.rounds.ensures c.if2.true
 
@@ -106,7 +106,7 @@ returns_3 c =
     let start = after_block_of.before.before.before.before.before in
     let a = start.args in
     open_forges a.s (key_in a.s.cipher a.share.now) a.nonce.now a.header.now _ after_block_of.block_of.ensures _ a.sealed.now
-    a.room.now _ _ after_body_of.body_of.ensures refl (key-length a.s a.share.now _ _ _ _ _ _ _ start.requires.0 after_check.check.ensures)
+    a.room.now _ _ after_body_of.body_of.ensures refl (key_length a.s a.share.now _ _ _ _ _ _ _ start.requires.0 after_check.check.ensures)
     test.if1.false _ refl _ _
     after_open.«open».ensures _ after_rounds.rounds.ensures test2.if2.false _ after_clear.clear.ensures
 

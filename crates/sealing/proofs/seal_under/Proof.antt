@@ -4,7 +4,7 @@ use native.Mathlib.Omega.{arith}
 use Rattle.ciphers.proofs.Laws.{block_most}
 use Rattle.prepared.specs.Prepared.{key_in}
 use Rattle.schemes.proofs.Passed.{check_passed}
-use Rattle.sealing.proofs.Answers.{key-length, seal_refuses, seal_does}
+use Rattle.sealing.proofs.Answers.{key_length, seal_refuses, seal_does}
 use borrow.Author.Rules.{rules}
 use Rattle.sealing.proofs.seal_under.Statement.{statement}
 use Rattle.sealing.proofs.seal_under.Tie as tie
@@ -24,7 +24,7 @@ returns c =
     let start = after_block_of.before.before.before.before.before in
     let a = start.args in
     seal_refuses a.s (key_in a.s.cipher a.share.now) a.nonce.now a.header.now _ after_block_of.block_of.ensures _ a.body.now _
-    (key-length a.s a.share.now _ _ _ _ _ _ _ start.requires.0 c.before.check.ensures) c.if1.true
+    (key_length a.s a.share.now _ _ _ _ _ _ _ start.requires.0 c.before.check.ensures) c.if1.true
 
 rounds_requires : tie.Need-rounds-requires
 rounds_requires c κs =
@@ -70,7 +70,7 @@ returns_2 c =
     let start = after_block_of.before.before.before.before.before in
     let a = start.args in
     seal_does a.s (key_in a.s.cipher a.share.now) a.nonce.now a.header.now _ after_block_of.block_of.ensures _ a.body.now
-    a.room.now (key-length a.s a.share.now _ _ _ _ _ _ _ start.requires.0 after_check.check.ensures) test.if1.false _ _ refl
+    a.room.now (key_length a.s a.share.now _ _ _ _ _ _ _ start.requires.0 after_check.check.ensures) test.if1.false _ _ refl
     after_seal.seal.ensures _ after_rounds.rounds.ensures
 
 pub seal_under_spec : {M : Type 1} → statement M

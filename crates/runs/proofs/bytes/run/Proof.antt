@@ -5,7 +5,7 @@ use lib.Dec.{lit<}
 use Rattle.cells.specs.Cells.{Byte}
 use Rattle.rounds.specs.Words.{shown}
 use Rattle.runs.proofs.Loops.{Begun, begun_none, ran_as}
-use Rattle.runs.proofs.Seen.{bytes, worked, turn_forward, end-forward}
+use Rattle.runs.proofs.Seen.{bytes, worked, turn_forward, end_forward}
 use Rattle.runs.proofs.bytes.run.Statement.{statement}
 use Rattle.runs.proofs.bytes.run.Tie as tie
 
@@ -123,7 +123,7 @@ returns c =
     let v = w.before.before.before.before in
     let a = v.before.args in
     ran_as
-    (end-forward bytes a.keys.now a.from l.loop.done l.loop.x y.linear-with2.result (omega arith) y.linear-with2.ensures
+    (end_forward bytes a.keys.now a.from l.loop.done l.loop.x y.linear-with2.result (omega arith) y.linear-with2.ensures
     (worked v.words_of.result w.before.before.before.sub-bytes.ensures w.before.before.sub-bytes2.ensures w.before.sub-bytes3.ensures w.sub-bytes4.ensures) l.loop.invariant.1 a.s v.words_of.ensures)
     (omega arith)
     c.state-of.ensures

@@ -8,7 +8,7 @@ use Rattle.cells.specs.Cells.{Byte}
 use Rattle.rounds.specs.State.{State}
 use Rattle.rounds.specs.Words.{shown}
 use Rattle.runs.proofs.Loops.{Begun, begun_none, Left, left_all, ran_as, unran_as}
-use Rattle.runs.proofs.Seen.{bytes, worked, turn_forward, end-forward, turn-back, end_back}
+use Rattle.runs.proofs.Seen.{bytes, worked, turn_forward, end_forward, turn_back, end_back}
 use Rattle.runs.proofs.bytes.run_apart.Statement.{statement}
 use Rattle.runs.proofs.bytes.run_apart.Tie as tie
 
@@ -148,7 +148,7 @@ loop_again c =
     let pre = l.before.before.before.before.before.before.before.before.requires in
     let on = p.before.before.loop-test.true in (
       omega (arith, on),
-      turn-back bytes l.loop.x p.unlinear-with.result (a.n - 1 - l.loop.i) (omega (arith, on)) (omega (arith, on)) (omega (arith, on, pre.1)) l.loop.invariant.1
+      turn_back bytes l.loop.x p.unlinear-with.result (a.n - 1 - l.loop.i) (omega (arith, on)) (omega (arith, on)) (omega (arith, on, pre.1)) l.loop.invariant.1
           p.unlinear-with.ensures (worked p.unlinear-with.result w.before.before.before.unsub-bytes.ensures w.before.before.unsub-bytes2.ensures w.before.unsub-bytes3.ensures w.unsub-bytes4.ensures),
       turn_forward bytes a.keys.now a.from l.loop.i l.loop.y q.linear-with.result (omega (arith, on, pre.1)) q.linear-with.ensures l.loop.invariant.2
           (worked q.linear-with.result c.before.before.before.sub-bytes5.ensures c.before.before.sub-bytes6.ensures c.before.sub-bytes7.ensures c.sub-bytes8.ensures),
@@ -246,7 +246,7 @@ returns c =
           (end_back bytes l.loop.x u.words_of.result u.before.requires.0 (rw none at l.loop.invariant.1) a.s u.words_of.ensures)
           c.state-of2.ensures,
       ran_as
-          (end-forward bytes a.keys.now a.from l₂.loop2.i l₂.loop2.y y.linear-with3.result (omega arith) y.linear-with3.ensures
+          (end_forward bytes a.keys.now a.from l₂.loop2.i l₂.loop2.y y.linear-with3.result (omega arith) y.linear-with3.ensures
           (worked v.words-of2.result w.before.before.before.sub-bytes.ensures w.before.before.sub-bytes2.ensures w.before.sub-bytes3.ensures w.sub-bytes4.ensures) (l₂.loop2.invariant.1 _ l.loop.invariant.2) a.other.now v.words-of2.ensures)
           last z.state-of.ensures,
     )

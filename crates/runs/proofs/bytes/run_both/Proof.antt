@@ -6,7 +6,7 @@ use lib.Dec.{lit<}
 use Rattle.cells.specs.Cells.{Byte}
 use Rattle.rounds.specs.Words.{shown}
 use Rattle.runs.proofs.Loops.{Begun, begun_none, ran_as}
-use Rattle.runs.proofs.Seen.{bytes, worked, turn_forward, end-forward}
+use Rattle.runs.proofs.Seen.{bytes, worked, turn_forward, end_forward}
 use Rattle.runs.proofs.bytes.run_both.Statement.{statement}
 use Rattle.runs.proofs.bytes.run_both.Tie as tie
 
@@ -215,11 +215,11 @@ returns c =
     let a = u.before.args in
     let last : l.loop.i + 1 ≡ a.count = omega (arith, z.before.before.before.loop-test.false, l.loop.invariant.0) in (
       ran_as
-          (end-forward bytes a.keys.now a.from l.loop.i l.loop.x c.before.linear-with4.result (omega arith) c.before.linear-with4.ensures
+          (end_forward bytes a.keys.now a.from l.loop.i l.loop.x c.before.linear-with4.result (omega arith) c.before.linear-with4.ensures
           (worked u.words_of.result w₀.before.before.before.sub-bytes.ensures w₀.before.before.sub-bytes2.ensures w₀.before.sub-bytes3.ensures w₀.sub-bytes4.ensures) l.loop.invariant.1 a.near u.words_of.ensures)
           last c.state-of2.ensures,
       ran_as
-          (end-forward bytes a.keys.now (a.from + a.count) l.loop.i l.loop.y z.before.linear-with3.result (omega arith) z.before.linear-with3.ensures
+          (end_forward bytes a.keys.now (a.from + a.count) l.loop.i l.loop.y z.before.linear-with3.result (omega arith) z.before.linear-with3.ensures
           (worked v.words-of2.result w.before.before.before.sub-bytes5.ensures w.before.before.sub-bytes6.ensures w.before.sub-bytes7.ensures w.sub-bytes8.ensures) l.loop.invariant.2 a.far.now v.words-of2.ensures)
           last z.state-of.ensures,
     )

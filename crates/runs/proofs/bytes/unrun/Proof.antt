@@ -6,7 +6,7 @@ use lib.Dec.{lit<}
 use Rattle.cells.specs.Cells.{Byte}
 use Rattle.rounds.specs.Words.{shown}
 use Rattle.runs.proofs.Loops.{Left, left_all, unran_as}
-use Rattle.runs.proofs.Seen.{bytes, worked, turn-back, end_back}
+use Rattle.runs.proofs.Seen.{bytes, worked, turn_back, end_back}
 use Rattle.runs.proofs.bytes.unrun.Statement.{statement}
 use Rattle.runs.proofs.bytes.unrun.Tie as tie
 
@@ -70,7 +70,7 @@ loop_again c =
     let l = y.before.before.before in
     let a = l.before.before.args in (
       omega arith,
-      turn-back bytes l.loop.x y.unlinear-with.result (a.from + (l.loop.i - 1)) (omega arith) refl (omega arith) l.loop.invariant.1 y.unlinear-with.ensures
+      turn_back bytes l.loop.x y.unlinear-with.result (a.from + (l.loop.i - 1)) (omega arith) refl (omega arith) l.loop.invariant.1 y.unlinear-with.ensures
           (worked y.unlinear-with.result c.before.before.before.unsub-bytes.ensures c.before.before.unsub-bytes2.ensures c.before.unsub-bytes3.ensures c.unsub-bytes4.ensures),
     )
 

@@ -8,7 +8,7 @@ use Rattle.cells.specs.Words.{near}
 use Rattle.rounds.specs.State.{sub_by}
 use Rattle.rounds.specs.Words.{shown}
 use Rattle.runs.proofs.Loops.{Begun, begun_none, ran_as}
-use Rattle.runs.proofs.Seen.{nibbles, worked, turn_forward, end-forward}
+use Rattle.runs.proofs.Seen.{nibbles, worked, turn_forward, end_forward}
 use Rattle.runs.proofs.nibbles.run.Statement.{statement}
 use Rattle.runs.proofs.nibbles.run.Tie as tie
 
@@ -129,7 +129,7 @@ returns c =
     let v = w.before.before.before.before in
     let a = v.before.args in
     ran_as
-    (end-forward nibbles a.keys.now a.from l.loop.done l.loop.x y.linear-with2.result (omega arith) y.linear-with2.ensures
+    (end_forward nibbles a.keys.now a.from l.loop.done l.loop.x y.linear-with2.result (omega arith) y.linear-with2.ensures
     (worked v.words_of.result w.before.before.before.sub-nibbles.ensures w.before.before.sub-nibbles2.ensures w.before.sub-nibbles3.ensures w.sub-nibbles4.ensures) l.loop.invariant.1 a.s v.words_of.ensures)
     (omega arith)
     (c.near_of.ensures ∙ ap (sub_by near) c.before.state-of.ensures)

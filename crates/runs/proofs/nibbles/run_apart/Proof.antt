@@ -9,7 +9,7 @@ use Rattle.cells.specs.Words.{near}
 use Rattle.rounds.specs.State.{State, sub_by}
 use Rattle.rounds.specs.Words.{shown}
 use Rattle.runs.proofs.Loops.{Begun, begun_none, Left, left_all, ran_as, unran_as}
-use Rattle.runs.proofs.Seen.{nibbles, worked, turn_forward, end-forward, turn-back, end_back}
+use Rattle.runs.proofs.Seen.{nibbles, worked, turn_forward, end_forward, turn_back, end_back}
 use Rattle.runs.proofs.nibbles.run_apart.Statement.{statement}
 use Rattle.runs.proofs.nibbles.run_apart.Tie as tie
 
@@ -149,7 +149,7 @@ loop_again c =
     let pre = l.before.before.before.before.before.before.before.before.requires in
     let on = p.before.before.loop-test.true in (
       omega (arith, on),
-      turn-back nibbles l.loop.x p.unlinear-with.result (a.n - 1 - l.loop.i) (omega (arith, on)) (omega (arith, on)) (omega (arith, on, pre.1)) l.loop.invariant.1
+      turn_back nibbles l.loop.x p.unlinear-with.result (a.n - 1 - l.loop.i) (omega (arith, on)) (omega (arith, on)) (omega (arith, on, pre.1)) l.loop.invariant.1
           p.unlinear-with.ensures (worked p.unlinear-with.result w.before.before.before.unsub-nibbles.ensures w.before.before.unsub-nibbles2.ensures w.before.unsub-nibbles3.ensures w.unsub-nibbles4.ensures),
       turn_forward nibbles a.keys.now a.from l.loop.i l.loop.y q.linear-with.result (omega (arith, on, pre.1)) q.linear-with.ensures l.loop.invariant.2
           (worked q.linear-with.result c.before.before.before.sub-nibbles5.ensures c.before.before.sub-nibbles6.ensures c.before.sub-nibbles7.ensures c.sub-nibbles8.ensures),
@@ -253,7 +253,7 @@ returns c =
           (end_back nibbles l.loop.x u.words_of.result u.before.requires.0 (rw none at l.loop.invariant.1) a.s u.words_of.ensures)
           (c.near-of2.ensures ∙ ap (sub_by near) c.before.state-of2.ensures),
       ran_as
-          (end-forward nibbles a.keys.now a.from l₂.loop2.i l₂.loop2.y y.linear-with3.result (omega arith) y.linear-with3.ensures
+          (end_forward nibbles a.keys.now a.from l₂.loop2.i l₂.loop2.y y.linear-with3.result (omega arith) y.linear-with3.ensures
           (worked v.words-of2.result w.before.before.before.sub-nibbles.ensures w.before.before.sub-nibbles2.ensures w.before.sub-nibbles3.ensures w.sub-nibbles4.ensures) (l₂.loop2.invariant.1 _ l.loop.invariant.2) a.other.now v.words-of2.ensures)
           last (z.near_of.ensures ∙ ap (sub_by near) z.before.state-of.ensures),
     )

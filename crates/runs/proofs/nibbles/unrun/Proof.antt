@@ -8,7 +8,7 @@ use Rattle.cells.specs.Words.{near}
 use Rattle.rounds.specs.State.{sub_by}
 use Rattle.rounds.specs.Words.{shown}
 use Rattle.runs.proofs.Loops.{Left, left_all, unran_as}
-use Rattle.runs.proofs.Seen.{nibbles, worked, turn-back, end_back}
+use Rattle.runs.proofs.Seen.{nibbles, worked, turn_back, end_back}
 use Rattle.runs.proofs.nibbles.unrun.Statement.{statement}
 use Rattle.runs.proofs.nibbles.unrun.Tie as tie
 
@@ -72,7 +72,7 @@ loop_again c =
     let l = y.before.before.before in
     let a = l.before.before.args in (
       omega arith,
-      turn-back nibbles l.loop.x y.unlinear-with.result (a.from + (l.loop.i - 1)) (omega arith) refl (omega arith) l.loop.invariant.1 y.unlinear-with.ensures
+      turn_back nibbles l.loop.x y.unlinear-with.result (a.from + (l.loop.i - 1)) (omega arith) refl (omega arith) l.loop.invariant.1 y.unlinear-with.ensures
           (worked y.unlinear-with.result c.before.before.before.unsub-nibbles.ensures c.before.before.unsub-nibbles2.ensures c.before.unsub-nibbles3.ensures c.unsub-nibbles4.ensures),
     )
 

@@ -7,7 +7,7 @@ use borrow.Author.Rules.{rules}
 use Rattle.ciphers.proofs.Laws.{block_some}
 use Rattle.prepared.specs.Prepared.{key_in}
 use Rattle.kept.specs.Kept.{Lent}
-use Rattle.walks.proofs.Opened.{OpenGoing, opening_none, turn-may, opening_more, end-may, opening_end}
+use Rattle.walks.proofs.Opened.{OpenGoing, opening_none, turn_may, opening_more, end_may, opening_end}
 use Rattle.walks.proofs.opening.run.Statement.{statement}
 use Rattle.walks.proofs.opening.run.Tie as tie
 
@@ -56,7 +56,7 @@ turn_requires c κs =
     let n = i.before.before in
     let st = n.before.before.before.before in
     let a = st.args in
-    turn-may a.c a.k (key_in a.c a.share.now) a.nonce.now a.run.now a.start a.room.now i.before.loop.invariant.0 n.block_of.result n.block_of.ensures st.requires.0 st.requires.2 i.loop-test.true i.before.loop.invariant.1
+    turn_may a.c a.k (key_in a.c a.share.now) a.nonce.now a.run.now a.start a.room.now i.before.loop.invariant.0 n.block_of.result n.block_of.ensures st.requires.0 st.requires.2 i.loop-test.true i.before.loop.invariant.1
 
 add_at : tie.Need-overflow-add-at invariant_loop decreases_loop
 add_at c =
@@ -108,7 +108,7 @@ end_requires c κs =
     let n = i.before.before in
     let st = n.before.before.before.before in
     let a = st.args in
-    end-may a.c a.k (key_in a.c a.share.now) a.nonce.now a.run.now a.start a.room.now i.before.loop.invariant.0 n.block_of.result n.block_of.ensures st.requires.0 st.requires.2 i.loop-test.false i.before.loop.invariant.1
+    end_may a.c a.k (key_in a.c a.share.now) a.nonce.now a.run.now a.start a.room.now i.before.loop.invariant.0 n.block_of.result n.block_of.ensures st.requires.0 st.requires.2 i.loop-test.false i.before.loop.invariant.1
 
 same_length : tie.Need-same-length invariant_loop decreases_loop
 same_length c = search rules
