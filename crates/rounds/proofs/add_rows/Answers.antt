@@ -8,7 +8,7 @@ use Rattle.rounds.proofs.add_rows.Goals as goal
 pub returns : goal.returns
 returns c =
     let a = c.args in
-    let at : ℕ → ℕ = λ k. get_or a.t5 k 0 in
+    let at : ℕ → ℕ = λ k. get_or a.s k 0 in
     λ i. four
     (row (λ j. lane_xor (at 0) a.a j i))
     (row (λ j. lane_xor (at 1) a.b j i))

@@ -10,7 +10,7 @@ use Rattle.rounds.proofs.mix_columns.Goals as goal
 
 pub returns : goal.returns
 returns c =
-    let at : ℕ → ℕ = λ k. get_or c.args.t1 k 0 in
+    let at : ℕ → ℕ = λ k. get_or c.args.s k 0 in
     let a = at 0 in
     let b = at 1 in
     let e = at 2 in

@@ -6,5 +6,5 @@ use Rattle.rounds.proofs.shift_rows.Goals as goal
 
 pub returns : goal.returns
 returns c =
-    let s = c.args.t1 in
+    let s = c.args.s in
     λ i. four (row (lane (get_or s 0 0))) (c.right_1.ensures i) (c.right_2.ensures i) (c.right_3.ensures i)

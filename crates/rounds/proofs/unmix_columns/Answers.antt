@@ -10,7 +10,7 @@ use Rattle.rounds.proofs.unmix_columns.Goals as goal
 
 pub returns : goal.returns
 returns c =
-    let at : ℕ → ℕ = λ k. get_or c.args.t1 k 0 in
+    let at : ℕ → ℕ = λ k. get_or c.args.s k 0 in
     let p = at 0 in
     let q = at 1 in
     let r = at 2 in

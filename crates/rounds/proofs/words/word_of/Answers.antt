@@ -3,4 +3,4 @@ use Rattle.rounds.proofs.Rows.{held_row}
 use Rattle.rounds.proofs.words.word_of.Goals as goal
 
 pub returns : goal.returns
-returns c = held_row c.word.result c.args.t1 c.word.ensures
+returns c = held_row c.word.result c.args.r c.word.ensures
