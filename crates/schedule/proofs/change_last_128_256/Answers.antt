@@ -1,0 +1,26 @@
+-- `schedule::change_last_128_256` meets its contract: after i turns the change is stepped 8i times, and the odd rows to there are corrected.
+-- Assumes nothing.
+use mathlib.Core.Path.{refl, ◌∙◌}
+use Prim.Native.Nat.{◌*◌, ◌-◌}
+use lib.ListN.{get_or}
+use native.Mathlib.Omega.{arith}
+use Rattle.schedule.specs.Change.{places15}
+use Rattle.schedule.proofs.Changed.{byte_changed}
+use Rattle.schedule.proofs.OddRows.{odd_none, odd_on, cell_turn}
+use Rattle.schedule.proofs.Trails.{stays}
+use Rattle.schedule.proofs.change_last_128_256.Goals as goal
+
+pub loop-i-init : goal.loop-i-init
+loop-i-init c = (omega arith, refl, odd_none)
+
+pub cell_on_128_256-x-requires : goal.cell_on_128_256-x-requires
+cell_on_128_256-x-requires c =
+    (omega arith, c.loop-i.invariant.2.long ∙ c.requires.1, stays (λ k. get_or places15 k 0) 8 tt)
+
+pub loop-i-preserved : goal.loop-i-preserved
+loop-i-preserved c =
+    let (h, e, s) = c.loop-i.invariant in
+    let (e', r) = cell_turn c.cell_on_128_256-x.ensures e in (omega arith, e', odd_on (omega arith) (omega arith) s r)
+
+pub returns : goal.returns
+returns c = let l = c.loop-i in (l.invariant.2.long ∙ c.requires.1, λ t u. byte_changed {b = 8 * l.i} l.invariant.2 (omega arith))
