@@ -12,7 +12,7 @@ ghost use Rattle.ciphers.specs.Ciphers.{number_of, width_of, words_of, init_of, 
 use schedule::Tweakey;
 
 // By the bits of the block and of the tweakey, as the paper names its ciphers: 64-192 and 128-256.
-#[derive(Drop)]
+#[derive(Clone, Copy)]
 pub enum Cipher {
     N64T192,
     N128T256,

@@ -20,7 +20,7 @@ use ciphers::Cipher;
 use kept::Kept;
 
 // After the fork the near branch goes on, and the far one takes the rounds after it.
-#[derive(Drop)]
+#[derive(Clone, Copy)]
 pub enum Branch {
     Near,
     Far,
@@ -131,7 +131,7 @@ fn from_fork(c: Cipher, keys: &[[u8; 8]; 97], s: [[u8; 4]; 4]) -> [u8; 16]
 // ---- two results at once, their rounds side by side
 
 // The first result of a call, and the second.
-#[derive(Drop)]
+#[derive(Clone, Copy)]
 struct Both {
     first: [u8; 16],
     second: [u8; 16],
@@ -224,7 +224,7 @@ pub fn fork_rounds(c: Cipher, want: u32) -> u32
 }
 
 // What a block call forward answers: 0, what was asked for and the rounds, or 1, zeros and no rounds.
-#[derive(Drop)]
+#[derive(Clone, Copy)]
 pub struct Forked {
     pub number: u32,
     pub half0: [u8; 16],
@@ -279,7 +279,7 @@ pub fn fork_by(c: Cipher, share: &[u8; 784], tweak: [u8; 16], block: [u8; 16], w
 }
 
 // A call forward, and what its room for round keys then holds.
-#[derive(Drop)]
+#[derive(Clone, Copy)]
 pub struct ForkedOn {
     pub forked: Forked,
     pub kept: Kept,
@@ -319,7 +319,7 @@ fn unfork_rounds(c: Cipher, want: u32) -> u32
 }
 
 // What a block call back answers: 0, what was asked for and the rounds, or 1, zeros and no rounds.
-#[derive(Drop)]
+#[derive(Clone, Copy)]
 pub struct Unforked {
     pub number: u32,
     pub input: [u8; 16],
@@ -387,7 +387,7 @@ pub fn unfork_by(
 }
 
 // A call back, and what its room for round keys then holds.
-#[derive(Drop)]
+#[derive(Clone, Copy)]
 pub struct UnforkedOn {
     pub unforked: Unforked,
     pub kept: Kept,

@@ -10,7 +10,7 @@ use blocks::equal;
 use ciphers::Cipher;
 
 // What a room for round keys holds: the keys of so many rounds, under this tweak.
-#[derive(Drop)]
+#[derive(Clone, Copy)]
 pub struct Kept {
     pub tweak: [u8; 16],
     pub rounds: usize,

@@ -39,7 +39,10 @@ most_digits n k h (some, most, least) =
     omega arith
 
 -- what `io::decimal` answers of n: k, and d with k digits at its front
-module _ (n k : ℕ) (d : List ℕ) (most : k ≤ 20) (told : IsPrefixLen k d × (IsDigitCount 10 1 n k × (take k d ≡ last_digits 10 k n))) where
+abbrev pub Told : ℕ → ℕ → List ℕ → Type 0
+Told n k d = IsPrefixLen k d × (IsDigitCount 10 1 n k × (take k d ≡ last_digits 10 k n))
+
+module _ (n k : ℕ) (d : List ℕ) (most : k ≤ 20) (told : Told n k d) where
   spelled : take k d ≡ decimal_of n
   spelled = told.1.1 ∙ same_digits k 20 n most told.1.0
 

@@ -12,7 +12,7 @@ use ciphers::Cipher;
 
 // The tweakey record: the number of its cipher, 49 rows of sixteen cells one after the other, which are the key's share of the rounds, and
 // the moving part, the word of the tweak, zeros before a call.
-#[derive(Drop)]
+#[derive(Clone, Copy)]
 pub struct Prepared {
     pub cipher: u32,
     pub share: [u8; 784],
@@ -20,7 +20,7 @@ pub struct Prepared {
 }
 
 // What preparing answers: 0 and the record, or a number and a record that no call admits.
-#[derive(Drop)]
+#[derive(Clone, Copy)]
 pub struct Preparation {
     pub number: u32,
     pub made: Prepared,

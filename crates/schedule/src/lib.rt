@@ -15,14 +15,14 @@ ghost use Rattle.schedule.specs.Share.{Summed, Turn, Parts, LastChanged};
 ghost use Rattle.schedule.specs.Change.{cell_laid, CellOn};
 
 // The tweakey: room for three words of sixteen cells, one after the other, and the number of rounds that it has served.
-#[derive(Drop)]
+#[derive(Clone, Copy)]
 pub struct Tweakey {
     pub cells: [u8; 48],
     pub at: usize,
 }
 
 // What moves from turn to turn: the cells of the tweak's word, and the round at which they stand.
-#[derive(Drop)]
+#[derive(Clone, Copy)]
 pub struct Moving {
     pub cells: [u8; 16],
     pub at: usize,

@@ -11,7 +11,7 @@ use ciphers::Cipher;
 use states::Kind;
 
 // A scheme: cipher and mode, bytes of its key and nonce, and the most bytes of a header and of a body.
-#[derive(Drop)]
+#[derive(Clone, Copy)]
 pub struct Scheme {
     pub cipher: Cipher,
     pub kind: Kind,
@@ -22,7 +22,7 @@ pub struct Scheme {
 }
 
 // What a number names.
-#[derive(Drop)]
+#[derive(Clone, Copy)]
 pub enum Named {
     Known(Scheme),
     Unknown,

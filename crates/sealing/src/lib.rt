@@ -15,7 +15,7 @@ pub use views::view;
 use walks::{counting, records};
 
 // What a caller is told: the number, the length of what stands at the front of the room, and the rounds that were run.
-#[derive(Drop)]
+#[derive(Clone, Copy)]
 pub struct Answer {
     pub number: u32,
     pub length: usize,
@@ -339,7 +339,7 @@ pub fn open_by_key(
 }
 
 // What a record costs: the number, and the rounds of a seal or an open.
-#[derive(Drop)]
+#[derive(Clone, Copy)]
 pub struct Budget {
     pub number: u32,
     pub rounds: u32,

@@ -10,7 +10,7 @@ use blocks::front;
 use kept::Kept;
 
 // The modes, by name.
-#[derive(Drop)]
+#[derive(Clone, Copy)]
 pub enum Kind {
     Paef,
     Saef,
@@ -20,7 +20,7 @@ pub enum Kind {
 
 // What goes from block to block: S (PAEF), Delta (SAEF), T_A (Umbreon) or the sealed block before (Jolteon); Delta (Umbreon, Jolteon); the number
 // of the next block (all but SAEF); whether no block was worked yet (SAEF); and what the room for round keys holds.
-#[derive(Drop)]
+#[derive(Clone, Copy)]
 pub struct State {
     pub mask: [u8; 16],
     pub delta: [u8; 16],
@@ -30,21 +30,21 @@ pub struct State {
 }
 
 // One block, such as S, Delta or T_A behind a header block, and the round keys.
-#[derive(Drop)]
+#[derive(Clone, Copy)]
 pub struct Left {
     pub mask: [u8; 16],
     pub kept: Kept,
 }
 
 // A block's output, and what goes on.
-#[derive(Drop)]
+#[derive(Clone, Copy)]
 pub struct Step {
     pub out: [u8; 16],
     pub next: State,
 }
 
 // Two blocks: of a last block, the one that is given whole, and the one of which leading bytes are given; and the round keys.
-#[derive(Drop)]
+#[derive(Clone, Copy)]
 pub struct Pair {
     pub first: [u8; 16],
     pub second: [u8; 16],
@@ -52,7 +52,7 @@ pub struct Pair {
 }
 
 // The rounds of a header block, of a body block that is not the last, and of the last one.
-#[derive(Drop)]
+#[derive(Clone, Copy)]
 pub struct Prices {
     pub head: u32,
     pub block: u32,

@@ -15,4 +15,4 @@ returns c =
     let one = wrote_first {x = field_of a.number} {room₀ = a.text.now} _ (sym first.1.0) (omega arith) first.1.1 in
     let two = wrote_more one _ _ _ (sym second.1.0) (omega arith) second.1.1 in
     let three = wrote_more two _ _ _ (sym third.1.0) (omega arith) third.1.1 in
-    ((omega arith, simp length-take (omega arith)), (sym three.reach, three.said))
+    record { prefix_len = (omega arith, simp length-take (omega arith)); puts = (sym three.reach, three.said) }
