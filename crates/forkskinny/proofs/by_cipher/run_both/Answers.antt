@@ -1,0 +1,21 @@
+-- `forkskinny::by_cipher::run_both` meets its contract: by cases. Assumes nothing.
+use mathlib.Core.Path.{subst⁻¹}
+use Prim.Native.Nat.{◌+◌}
+use Rattle.runs.specs.Runs.{Ran}
+use Rattle.ciphers.specs.declared.Cipher.{Cipher}
+use Rattle.ciphers.specs.Ciphers.{width_of}
+use Rattle.forkskinny.proofs.by_cipher.run_both.Goals as goal
+
+pub returns-in-N64T192 : goal.returns-in-N64T192
+returns-in-N64T192 c =
+    let a = c.args in
+    subst⁻¹ (λ (x : Cipher). Ran (width_of x) (a.from + a.count + a.count) a.keys.now a.from a.count a.near c.run_both.result
+    × Ran (width_of x) (a.from + a.count + a.count) a.keys.now (a.from + a.count) a.count a.far.now c.run_both.new.far)
+    c.in-N64T192.is c.run_both.ensures
+
+pub returns-in-N128T256 : goal.returns-in-N128T256
+returns-in-N128T256 c =
+    let a = c.args in
+    subst⁻¹ (λ (x : Cipher). Ran (width_of x) (a.from + a.count + a.count) a.keys.now a.from a.count a.near c.run_both-in-N128T256.result
+    × Ran (width_of x) (a.from + a.count + a.count) a.keys.now (a.from + a.count) a.count a.far.now c.run_both-in-N128T256.new.far)
+    c.in-N128T256.is c.run_both-in-N128T256.ensures
