@@ -32,7 +32,7 @@ slice_aggregate_equal : tie.Need-slice-aggregate-equal
 slice_aggregate_equal c =
     let after_block_of = c.before.before.before.before.before.before in
     let start = after_block_of.before.before.before.before.before in
-    simp length-take (omega (arith, c.before.alone.type-inv, after_block_of.block_of.ensures, block_most start.args.c))
+    simp length-take (omega (arith, c.before.alone.type_inv, after_block_of.block_of.ensures, block_most start.args.c))
 
 equal_requires : tie.Need-equal-requires
 equal_requires c κs = search rules

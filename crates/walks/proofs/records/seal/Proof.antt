@@ -49,7 +49,7 @@ returns c =
     after_alone.alone.ensures a.body.now _ _ test.if1.true
     (record {
       said = after_store.store.ensures;
-      long = length-take-le _ _ (omega (arith, after_alone.alone.type-inv, after_block_of.block_of.ensures, block_most a.c));
+      long = length-take-le _ _ (omega (arith, after_alone.alone.type_inv, after_block_of.block_of.ensures, block_most a.c));
     })
 
 head_requires_2 : tie.Need-head-requires-2

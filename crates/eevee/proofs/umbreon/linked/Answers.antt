@@ -1,0 +1,13 @@
+-- `eevee::umbreon::linked` meets its contract: xor by xor. Assumes nothing.
+use mathlib.Core.Path.{ap}
+use mathlib.Core.Bool.{false}
+use mathlib.Core.List.{List}
+use Prim.Native.Nat.{ℕ, ◌+◌}
+use Rattle.eevee.specs.Made.{linked_of}
+use Rattle.eevee.proofs.umbreon.linked.Goals as goal
+
+pub returns : goal.returns
+unfolding linked_of
+returns c =
+    let a = c.args in
+    ap (λ (l : List ℕ). record { out = a.out; next = record { mask = a.link; delta = l; number = a.s.number + 1; first = false; kept = a.kept } }) c.xored.ensures

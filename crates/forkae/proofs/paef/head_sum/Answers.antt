@@ -1,0 +1,16 @@
+-- `forkae::paef::head_sum` meets its contract: `head_is` of what the callees made. Assumes nothing.
+use native.Mathlib.Omega.{arith}
+use Rattle.ciphers.proofs.Laws.{block_most}
+use Rattle.forkae.proofs.PaefSteps.{head_is}
+use Rattle.prepared.specs.Prepared.{key_in}
+use Rattle.forkae.proofs.paef.head_sum.Goals as goal
+
+pub tweak-t-requires : goal.tweak-t-requires
+tweak-t-requires c = (omega (arith, c.requires.0, block_most c.args.c), c.requires.1, c.requires.2)
+
+pub returns : goal.returns
+returns c =
+    let a = c.args in (
+      head_is a.c (key_in a.c a.share.now) a.nonce.now a.flag a.s a.x _ c.requires.0 c.tweak-t.ensures _ _ c.fork_on-f.ensures.0 c.xored.ensures,
+      c.fork_on-f.ensures.1,
+    )
