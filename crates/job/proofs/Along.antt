@@ -3,11 +3,11 @@
 --     along-cut, along-all     what is answered where one is cut, and where none is left
 -- Assumes nothing.
 use mathlib.Core.Path.{◌≡◌, refl, sym, ap, ◌∙◌}
-use mathlib.Core.Bool.{Bool, true, false, not}
+use mathlib.Core.Bool.{Bool, true, false}
 use mathlib.Core.List.{List}
 use Prim.Native.Nat.{ℕ, suc, ◌+◌, ◌-◌, ◌≤◌, ◌<◌}
 use native.Mathlib.Omega.{arith}
-use borrow.Author.Tests.{eqb-true, eqb-false, eq-eqb, ne_eqb, not-true, not-false}
+use borrow.Author.Tests.{eqb-true, eqb-false, eq-eqb, ne_eqb}
 use lib.Dec.{eqb}
 use lib.ListN.{length, take, drop, length-drop}
 use lib.Seq.{drop-drop}
@@ -50,12 +50,12 @@ module _ {s : List ℕ} {k at left : ℕ} (w : Along s k at left) where
     from : sections_of k s ≡ sections_of (suc (left - 1)) (drop at s)
     from = w.same ∙ ap (λ (n : ℕ). sections_of n (drop at s)) one
 
-    pub along_cut : not r ≡ true → false ≡ sections_of k s
-    along_cut h = sym (from ∙ cut (left - 1) (drop at s) (sym here ∙ not-true r h))
+    pub along_cut : r ≡ false → false ≡ sections_of k s
+    along_cut h = sym (from ∙ cut (left - 1) (drop at s) (sym here ∙ h))
 
-    module _ (h : not r ≡ false) where
+    module _ (h : r ≡ true) where
       is_whole : whole_at (drop at s) ≡ true
-      is_whole = sym here ∙ not-false r h
+      is_whole = sym here ∙ h
 
       pub along_long : 2 + count_of (take (length s - at) (drop at s)) ≤ length s - at
       along_long =

@@ -1,10 +1,9 @@
 -- The sections of a sound job, as the code takes them one behind the other, and what the job is answered by. Assumes nothing.
 use mathlib.Core.Path.{◌≡◌, sym, ap, ◌∙◌}
-use mathlib.Core.Bool.{Bool, true, false, not}
+use mathlib.Core.Bool.{Bool, true, false}
 use mathlib.Core.List.{List}
 use Prim.Native.Nat.{ℕ, ◌-◌, ◌≤◌}
 use native.Mathlib.Omega.{arith}
-use borrow.Author.Tests.{not-true, not-false}
 use lib.ListN.{length, take, drop, get_or}
 use Rattle.sealing.specs.Calls.{refused, seal_of, open_of}
 use Rattle.blocks.proofs.Parts.{part_rest}
@@ -12,9 +11,9 @@ use Rattle.job.specs.Sections.{whole_at, section_of, behind_of}
 use Rattle.job.specs.Job.{is_sound, job_of, directed, from_nonce, from_header, from_body}
 use Rattle.job.proofs.Soundness.{sound, sound_front}
 
-pub unsound : (job room : List ℕ) {r : Bool} → r ≡ is_sound job → not r ≡ true → refused 9 room ≡ job_of job room
+pub unsound : (job room : List ℕ) {r : Bool} → r ≡ is_sound job → r ≡ false → refused 9 room ≡ job_of job room
 unfolding job_of
-unsound job room {r} e h = rw (sym e ∙ not-true r h)
+unsound job room {r} e h = rw (sym e ∙ h)
 
 -- ---- the sections from each of the four on, and that each is whole
 
@@ -34,9 +33,9 @@ module _ (job : List ℕ) where
         body_is : c ≡ from_body job
         body_is = at_body ∙ ap behind_of header_is
 
-  module _ {r : Bool} (e : r ≡ is_sound job) (f : not r ≡ false) where
+  module _ {r : Bool} (e : r ≡ is_sound job) (f : r ≡ true) where
     yes : is_sound job ≡ true
-    yes = sym e ∙ not-false r f
+    yes = sym e ∙ f
 
     pub key_whole : whole_at part ≡ true
     key_whole = ap whole_at (part_rest 2 job) ∙ (sound job yes).key

@@ -20,4 +20,4 @@ pub returns : goal.returns
 returns c =
     let line = c.line.ensures in
     let said = printed_so c.args.job.now c.args.room.now c.run-a.ensures c.view-output.ensures in
-    (line.0, (rw (← said) line.1, ap (λ (t : Told). t.room) c.run-a.ensures))
+    record { prefix_len = line.prefix_len; puts = rw (← said) line.puts; room_after = ap (λ (t : Told). t.room) c.run-a.ensures }

@@ -19,6 +19,10 @@ pub slice_bounds-from_key-start : goal.slice_bounds-from_key-start
 slice_bounds-from_key-start c =
     omega (arith, front c.args.job.now c.sound.ensures c.if-not-sound.false)
 
+pub slice_bounds-from_key-count : goal.slice_bounds-from_key-count
+slice_bounds-from_key-count c =
+    omega (arith, front c.args.job.now c.sound.ensures c.if-not-sound.false)
+
 pub behind-from_nonce-requires : goal.behind-from_nonce-requires
 behind-from_nonce-requires c =
     key_whole c.args.job.now c.sound.ensures c.if-not-sound.false
