@@ -17,7 +17,7 @@ use Rattle.schedule.specs.declared.Tweakey.{Tweakey}
 use Rattle.schedule.specs.Schedule.{key_cell, round_key, stepped, next_cells, advance}
 use Rattle.schedule.specs.Sixteen.{standing, moved_once, moved, upper, lower}
 use Rattle.schedule.proofs.Places.{advance_at}
-use Rattle.schedule.proofs.Trails.{trail, stays, on_trail}
+use Rattle.schedule.proofs.Trails.{trail, stays, on_trail, trails}
 
 module _ (w : Width) where
   long : (n : Words) (t : Tweakey) (m : ℕ) → length (advance w n (suc m) t).cells ≡ 48
@@ -25,17 +25,11 @@ module _ (w : Width) where
   long Two t m = refl
   long Three t m = refl
 
-  -- the cells' trails over sixteen rounds, computed
-  trails : (n : Words) (t : List ℕ) → tab (trail w n 16 t) 0 48 ≡ standing w n 8 t
-  unfolding standing
-  trails Two t = refl
-  trails Three t = refl
-
   sixteen_cells : (n : Words) (t : Tweakey) → (advance w n 16 t).cells ≡ standing w n 8 t.cells
   sixteen_cells n t =
       ext_get_or 0 (advance w n 16 t).cells (tab (trail w n 16 t.cells) 0 48) (long n t 15)
       (λ j h. let l : j < 48 = omega (arith, long n t 15) in on_trail w n 16 t j l ∙ sym (table (trail w n 16 t.cells) 48 j l))
-      ∙ trails n t.cells
+      ∙ trails w n t.cells
 
   -- the theorem: the tweakey sixteen rounds on
   pub sixteen : (n : Words) (t : Tweakey) → advance w n 16 t ≡ record { cells = standing w n 8 t.cells; at = t.at + 16 }

@@ -10,6 +10,7 @@ use Rattle.cells.proofs.Below.{every, below}
 use Rattle.cells.proofs.Tabs.{table}
 use Rattle.schedule.specs.declared.Tweakey.{Tweakey}
 use Rattle.schedule.specs.Schedule.{permuted_words, stepped, next_cells, advance}
+use Rattle.schedule.specs.Sixteen.{standing}
 
 -- a cell of a word, stepped as this word is: word 1 is not, nor is a word that is not there
 abbrev step_in : Width → Words → ℕ → ℕ → ℕ
@@ -57,3 +58,9 @@ module _ (w : Width) where
   on_trail n (suc m) t j h =
       ap (λ (l : List ℕ). get_or l j 0) (next_cells_lem n (advance w n m t).cells) ∙ table (trail w n 1 (advance w n m t).cells) 48 j h
       ∙ ap (arrived w n j) (on_trail n m t (origin n j) (origin_low n j h))
+
+  -- the cells' trails over sixteen rounds, computed
+  pub trails : (n : Words) (t : List ℕ) → tab (trail w n 16 t) 0 48 ≡ standing w n 8 t
+  unfolding standing
+  trails Two t = refl
+  trails Three t = refl
