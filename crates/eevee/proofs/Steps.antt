@@ -1,13 +1,13 @@
 -- What the steps of Umbreon and Jolteon make is what figure 9 says. Assumes nothing.
-use mathlib.Core.Path.{◌≡◌, ap, ap₂, ◌∙◌}
-use mathlib.Core.Bool.{Bool, false}
+use mathlib.Core.Path.{◌≡◌, ap, ◌∙◌}
+use mathlib.Core.Bool.{Bool}
 use mathlib.Core.List.{List}
 use Prim.Native.Nat.{ℕ, ◌+◌}
 use native.Mathlib.Omega.{arith}
 use lib.ListN.{length, take}
 use Rattle.kept.specs.declared.Kept.{Kept}
 use Rattle.modes.specs.Blocks.{◌⊕◌}
-use Rattle.modes.specs.Eevee.{Chain, Middle, bit, last_mask, body_half, body_input, body_other, eevee}
+use Rattle.modes.specs.Eevee.{Middle, bit, last_mask, body_half, body_input, body_other, eevee}
 use Rattle.modes.specs.Forkcipher.{Fork}
 use Rattle.modes.specs.Jolteon.{jolteon_own, jolteon}
 use Rattle.modes.specs.Umbreon.{umbreon_own, umbreon}

@@ -9,7 +9,6 @@ use Rattle.ciphers.specs.declared.Cipher.{Cipher}
 use Rattle.ciphers.specs.Ciphers.{block_of}
 use Rattle.forkskinny.specs.declared.Forked.{Forked}
 use Rattle.forkskinny.specs.declared.Unforked.{Unforked}
-use Rattle.forkskinny.specs.ForkSkinny.{input, other}
 use Rattle.forkskinny.specs.Calls.{wants, fork_by, unfork_by}
 use Rattle.forkskinny.proofs.Forkcipher.{half_long, input_long, other_long}
 use Rattle.modes.specs.Blocks.{◌⊕◌}

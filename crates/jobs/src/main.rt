@@ -8,6 +8,7 @@ use job::sections::{section, whole};
 
 // The descriptors of standard input and standard output.
 const INPUT: i32 = 0;
+
 const OUTPUT: i32 = 1;
 
 // Prints the line of one job.

@@ -1,12 +1,11 @@
 -- Umbreon and Jolteon obey the laws of a mode, over any forkcipher that obeys its own. Header and last block are the family's, proved once for
 -- whatever a mode does with the blocks before the last (`Own`). Assumes nothing.
-use mathlib.Core.Path.{◌≡◌, sym, ap, ap₂, ◌∙◌}
+use mathlib.Core.Path.{◌≡◌, sym, ap, ◌∙◌}
 use Prim.Native.Nat.{ℕ, ◌+◌, ◌*◌}
 use native.Mathlib.Omega.{arith}
-use mathlib.Core.Bool.{Bool}
 use mathlib.Core.List.{List}
 use Rattle.cells.specs.Cells.{Block}
-use Rattle.modes.specs.Blocks.{◌⊕◌, be16}
+use Rattle.modes.specs.Blocks.{◌⊕◌}
 use Rattle.modes.specs.Forkcipher.{Fork, ForkLaws, Undo}
 use Rattle.modes.specs.Lawful.{Lawful}
 use Rattle.modes.specs.Eevee.{Chain, Middle, bit, head_tweak, body_tweak, head_end, last_mask, head_link, body_half, body_input, body_other, eevee}

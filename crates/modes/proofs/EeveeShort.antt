@@ -1,15 +1,15 @@
 -- Modes of the family differ in the blocks before the last alone: where a body has at most one block, all of them seal it to the same run, and
 -- they open such a run to the same, with the same block calls. Assumes nothing.
-use mathlib.Core.Path.{◌≡◌, refl, ap, ◌∙◌}
+use mathlib.Core.Path.{◌≡◌, refl, ap}
 use Prim.Native.Nat.{ℕ, zero, suc, ◌+◌, ◌-◌, ◌≤◌, ◌<◌}
 use native.Mathlib.Omega.{arith}
-use mathlib.Core.Bool.{Bool, true, false, not, ◌&&◌, cond}
+use mathlib.Core.Bool.{Bool, not, ◌&&◌, cond}
 use mathlib.Core.List.{List, [], ◌++◌}
 use lib.Dec.{eqb}
-use lib.ListN.{length, take, drop}
+use lib.ListN.{length, drop}
 use Rattle.modes.specs.Blocks.{before_last, none, same}
 use Rattle.modes.specs.Forkcipher.{Fork}
-use Rattle.modes.specs.Mode.{Opened, walk_from, walk, headed, seal_last, seal_from, seal_rest, seal_run, open_last, open_from, open_rest, open_run}
+use Rattle.modes.specs.Mode.{walk_from, walk, headed, seal_last, seal_from, seal_rest, seal_run, open_last, open_from, open_rest, open_run}
 use Rattle.modes.specs.Rounds.{calls_from, head_calls, body_calls, run_calls, seal_calls, open_calls}
 use Rattle.modes.specs.Eevee.{Chain, Middle, eevee}
 use Rattle.modes.proofs.Rest.{before_last_none}

@@ -3,6 +3,7 @@
 
 // The descriptors of standard input and standard output.
 const INPUT: i32 = 0;
+
 const OUTPUT: i32 = 1;
 
 fn main() {

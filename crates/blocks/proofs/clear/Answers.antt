@@ -1,7 +1,6 @@
 -- `blocks::clear` meets its contract: its loop lays zeros over the part's front.
 -- Assumes nothing.
 use mathlib.Core.Path.{sym}
-use Prim.Native.Nat.{◌-◌}
 use native.Mathlib.Omega.{arith}
 use lib.ListN.{length-replicate, get_or-replicate}
 use Rattle.blocks.proofs.Over.{laid_none, laid_more, laid_front}

@@ -1,6 +1,5 @@
 -- `blocks::differences` meets its contract: its loop collects what the two differ by, and lists of two lengths are not the same.
 -- Assumes nothing.
-use Prim.Native.Nat.{◌-◌}
 use native.Mathlib.Omega.{arith}
 use Rattle.blocks.proofs.Collected.{collected_none, collected_more, collected_all, not_same}
 use Rattle.blocks.proofs.differences.Goals as goal

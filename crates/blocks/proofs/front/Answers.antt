@@ -1,7 +1,6 @@
 -- `blocks::front` meets its contract: its loop lays the part's bytes over zeros.
 -- Assumes nothing.
 use mathlib.Core.Path.{◌≡◌, refl}
-use Prim.Native.Nat.{◌-◌}
 use native.Mathlib.Omega.{arith}
 use Rattle.blocks.proofs.Loaded.{drop_replicate}
 use Rattle.blocks.proofs.Over.{laid_none, laid_more}

@@ -1,7 +1,6 @@
 -- `blocks::put` meets its contract: its loop lays the block over the part's front.
 -- Assumes nothing.
 use mathlib.Core.Path.{◌≡◌, refl}
-use Prim.Native.Nat.{◌-◌}
 use native.Mathlib.Omega.{arith}
 use Rattle.blocks.proofs.Over.{laid_none, laid_more}
 use Rattle.blocks.proofs.put.Goals as goal

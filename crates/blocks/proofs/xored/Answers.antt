@@ -1,7 +1,7 @@
 -- `blocks::xored` meets its contract: its loop lays the xor of the two over the first.
 -- Assumes nothing.
 use mathlib.Core.Path.{◌≡◌, sym, ◌∙◌}
-use Prim.Native.Nat.{◌-◌, ◌<◌}
+use Prim.Native.Nat.{◌<◌}
 use native.Mathlib.Omega.{arith}
 use lib.ListN.{length}
 use Rattle.modes.proofs.Bytes.{get_d_xor, xor_length}

@@ -1,6 +1,5 @@
 -- `lines::field` meets its contract: the loop lays the digits over the text, and the space ends them. Assumes nothing.
 use mathlib.Core.Path.{◌≡◌, refl, sym}
-use Prim.Native.Nat.{◌-◌}
 use native.Mathlib.Omega.{arith}
 use lib.ListN.{length-set}
 use Rattle.blocks.proofs.Over.{laid_none, laid_more, laid_front}

@@ -1,6 +1,5 @@
 -- `prepared::join` meets its contract: its loop lays the joined nibbles. Assumes nothing.
 use mathlib.Core.Path.{sym}
-use Prim.Native.Nat.{◌-◌}
 use native.Mathlib.Omega.{arith}
 use Rattle.blocks.proofs.Over.{laid_none, laid_more, laid_all}
 use Rattle.prepared.proofs.Loops.{joined_long, joined_at}

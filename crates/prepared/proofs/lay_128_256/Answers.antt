@@ -1,6 +1,5 @@
 -- `prepared::lay_128_256` meets its contract: both loops lay cells of the share. Assumes nothing.
 use mathlib.Core.Path.{refl}
-use Prim.Native.Nat.{◌-◌}
 use native.Mathlib.Omega.{arith}
 use Rattle.ciphers.specs.declared.Cipher.TheVariants.{N128T256}
 use Rattle.prepared.proofs.Loops.{shares_none, shares_more, shares_next, shares_all}

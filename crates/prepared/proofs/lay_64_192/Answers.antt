@@ -1,5 +1,4 @@
 -- `prepared::lay_64_192` meets its contract: both loops lay cells of the share and step word 2. Assumes nothing.
-use Prim.Native.Nat.{◌-◌}
 use native.Mathlib.Omega.{arith}
 use Rattle.ciphers.specs.declared.Cipher.TheVariants.{N64T192}
 use Rattle.prepared.proofs.Loops.{shares_none, shares_more, shares_next, shares_rows, stepped_none, stepped_cell, stepped_more, stepped_next}

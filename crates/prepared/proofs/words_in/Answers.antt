@@ -1,6 +1,5 @@
 -- `prepared::words_in` meets its contract: its loop reads both words, cell by cell. Assumes nothing.
 use mathlib.Core.Path.{ap, ◌∙◌}
-use Prim.Native.Nat.{◌-◌}
 use native.Mathlib.Omega.{arith}
 use Rattle.cells.specs.Cells.{Nibble, step3}
 use Rattle.prepared.proofs.Loops.{words_none, words_more, words_all}

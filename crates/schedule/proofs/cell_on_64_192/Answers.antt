@@ -1,5 +1,5 @@
 -- `schedule::cell_on_64_192` meets its contract: the loop keeps `CellOn`. Assumes nothing.
-use Prim.Native.Nat.{◌-◌, ◌<◌}
+use Prim.Native.Nat.{◌<◌}
 use native.Mathlib.Omega.{arith}
 use Rattle.schedule.proofs.OddRows.{cell_none, cell_more, cell_all}
 use Rattle.schedule.proofs.cell_on_64_192.Goals as goal

@@ -1,7 +1,7 @@
 -- `schedule::change_last_64_192` meets its contract: after i turns the change is stepped 8i times, and the odd rows to there are corrected.
 -- Assumes nothing.
 use mathlib.Core.Path.{refl, ◌∙◌}
-use Prim.Native.Nat.{◌*◌, ◌-◌}
+use Prim.Native.Nat.{◌*◌}
 use lib.ListN.{get_or}
 use native.Mathlib.Omega.{arith}
 use Rattle.schedule.specs.Change.{places14, places15}

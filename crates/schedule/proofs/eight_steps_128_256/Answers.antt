@@ -1,6 +1,5 @@
 -- `schedule::eight_steps_128_256` meets its contract: both loops keep `Stood`, the inner one of whatever cells the outer one began with.
 -- Assumes nothing.
-use Prim.Native.Nat.{◌-◌}
 use native.Mathlib.Omega.{arith}
 use Rattle.cells.specs.Cells.{Byte, step2}
 use Rattle.schedule.proofs.Standing.{stood_none, stood_more, stood_next, stood_all}

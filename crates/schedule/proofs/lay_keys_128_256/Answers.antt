@@ -1,6 +1,5 @@
 -- `schedule::lay_keys_128_256` meets its contract: the loop keeps `Keys`. Assumes nothing.
 use mathlib.Core.Path.{◌∙◌}
-use Prim.Native.Nat.{◌-◌}
 use native.Mathlib.Omega.{arith}
 use Rattle.cells.specs.Cells.{Byte, Two}
 use Rattle.schedule.proofs.Keys.{keys_none, keys_more, keys_long, keys_all}

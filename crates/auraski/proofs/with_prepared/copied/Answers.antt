@@ -1,6 +1,5 @@
 -- `auraski::with_prepared::copied` meets its contract: its loop copies. Assumes nothing.
 use mathlib.Core.Path.{refl}
-use Prim.Native.Nat.{◌-◌}
 use native.Mathlib.Omega.{arith}
 use Rattle.blocks.proofs.Over.{laid_none, laid_more, laid_all}
 use Rattle.auraski.proofs.with_prepared.copied.Goals as goal

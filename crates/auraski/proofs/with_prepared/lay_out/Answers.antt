@@ -1,6 +1,5 @@
 -- `auraski::with_prepared::lay_out` meets its contract: its loops lay the record from the front. Assumes nothing.
 use mathlib.Core.Path.{◌≡◌}
-use Prim.Native.Nat.{◌-◌}
 use native.Mathlib.Omega.{arith}
 use lib.ListN.{length}
 use Rattle.auraski.proofs.Rooms.{laid_first, laid_share, laid_on, laid_tweak, laid_whole}

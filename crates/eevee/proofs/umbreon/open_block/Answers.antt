@@ -11,8 +11,7 @@ pub returns : goal.returns
 unfolding linked_of
 returns c =
     let a = c.args in
-    let pair = c.back-p.ensures in
-    (
+    let pair = c.back-p.ensures in (
       umbreon_opened _ _ _ a.s a.x _ _ _ _ c.linked.ensures _ c.xored-out.ensures (omega (arith, c.xored-out.type_inv)) pair.0,
       lent_as (ap (λ (r : Step). r.next.kept) c.linked.ensures) pair.1,
     )

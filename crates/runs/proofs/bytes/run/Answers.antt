@@ -1,5 +1,4 @@
 -- `runs::bytes::run` meets its contract: the loop keeps `Begun`. Assumes nothing.
-use Prim.Native.Nat.{◌-◌, ◌<◌}
 use native.Mathlib.Omega.{arith}
 use lib.Dec.{lit<}
 use Rattle.runs.proofs.Loops.{begun_none, ran_as}

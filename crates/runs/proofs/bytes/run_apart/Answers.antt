@@ -1,7 +1,7 @@
 -- `runs::bytes::run_apart` meets its contract: the first loop keeps `Left` of one state and `Begun` of the other, and the second goes on with
 -- this one. Assumes nothing.
 use mathlib.Core.Path.{◌≡◌}
-use Prim.Native.Nat.{◌+◌, ◌-◌, ◌<◌}
+use Prim.Native.Nat.{◌+◌, ◌-◌}
 use native.Mathlib.Omega.{arith}
 use lib.Dec.{lit<}
 use Rattle.runs.proofs.Loops.{begun_none, left_all, ran_as, unran_as}

@@ -1,6 +1,6 @@
 -- `runs::bytes::run_both` meets its contract: the loop keeps `Begun` of both states. Assumes nothing.
 use mathlib.Core.Path.{◌≡◌}
-use Prim.Native.Nat.{◌+◌, ◌-◌, ◌<◌}
+use Prim.Native.Nat.{◌+◌}
 use native.Mathlib.Omega.{arith}
 use lib.Dec.{lit<}
 use Rattle.runs.proofs.Loops.{begun_none, ran_as}

@@ -1,5 +1,5 @@
 -- `runs::bytes::unrun` meets its contract: the loop keeps `Left`. Assumes nothing.
-use Prim.Native.Nat.{◌+◌, ◌-◌, ◌≤◌}
+use Prim.Native.Nat.{◌+◌, ◌≤◌}
 use Rattle.cells.specs.Cells.{Byte}
 use Rattle.rounds.specs.Words.{shown}
 use Rattle.runs.proofs.Loops.{Left}

@@ -1,6 +1,5 @@
 -- `runs::nibbles::run` meets its contract: the loop keeps `Begun`. Assumes nothing.
 use mathlib.Core.Path.{ap, ◌∙◌}
-use Prim.Native.Nat.{◌-◌, ◌<◌}
 use native.Mathlib.Omega.{arith}
 use lib.Dec.{lit<}
 use Rattle.cells.specs.Words.{near}

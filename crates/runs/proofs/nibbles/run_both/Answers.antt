@@ -1,6 +1,6 @@
 -- `runs::nibbles::run_both` meets its contract: the loop keeps `BothBegun`. Assumes nothing.
 use mathlib.Core.Path.{ap, ◌∙◌}
-use Prim.Native.Nat.{◌+◌, ◌-◌, ◌<◌}
+use Prim.Native.Nat.{◌+◌}
 use native.Mathlib.Omega.{arith}
 use lib.Dec.{lit<}
 use Rattle.cells.specs.Words.{near, far}

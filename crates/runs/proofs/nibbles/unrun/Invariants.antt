@@ -1,5 +1,5 @@
 -- `runs::nibbles::unrun` meets its contract: the loop keeps `Left`. Assumes nothing.
-use Prim.Native.Nat.{◌+◌, ◌-◌, ◌≤◌}
+use Prim.Native.Nat.{◌+◌, ◌≤◌}
 use Rattle.cells.specs.Cells.{Nibble}
 use Rattle.cells.specs.Words.{near}
 use Rattle.rounds.specs.State.{sub_by}

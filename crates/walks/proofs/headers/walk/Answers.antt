@@ -1,5 +1,4 @@
 -- `walks::headers::walk` meets its contract: `Walked` holds in every turn. Assumes nothing.
-use Prim.Native.Nat.{◌-◌}
 use native.Mathlib.Omega.{arith}
 use Rattle.ciphers.proofs.Laws.{block_some}
 use Rattle.walks.proofs.Places.{ready_at, lent_none, lent_long}

@@ -1,6 +1,5 @@
 -- `walks::opening::run` meets its contract: what has been opened, in front of what the rest opens to, is what the run opens to; the
 -- measure is what is left of the run. Assumes nothing.
-use Prim.Native.Nat.{◌-◌}
 use native.Mathlib.Omega.{arith}
 use Rattle.ciphers.proofs.Laws.{block_some}
 use Rattle.prepared.specs.Prepared.{key_in}

@@ -9,12 +9,11 @@ use Rattle.walks.proofs.FromHeader.{seal_none, seal_some}
 use Rattle.walks.proofs.records.seal.Goals as goal
 
 pub store-requires : goal.store-requires
-store-requires c =
-    (
-      omega (arith, c.block_of-n.ensures, block_most c.args.c),
-      omega
-          (arith, c.block_of-n.ensures, c.requires.2),
-    )
+store-requires c = (
+  omega (arith, c.block_of-n.ensures, block_most c.args.c),
+  omega
+      (arith, c.block_of-n.ensures, c.requires.2),
+)
 
 pub returns-then-body-eq0 : goal.returns-then-body-eq0
 returns-then-body-eq0 c =

@@ -1,5 +1,4 @@
 -- `walks::sealing::body` meets its contract: `SealGoing` holds in every turn. Assumes nothing.
-use Prim.Native.Nat.{◌-◌}
 use native.Mathlib.Omega.{arith}
 use Rattle.ciphers.proofs.Laws.{block_some}
 use Rattle.prepared.specs.Prepared.{key_in}

@@ -8,12 +8,11 @@ pub load-x-requires : goal.load-x-requires
 load-x-requires c = omega (arith, c.block_of-n.ensures, block_most c.args.c)
 
 pub store-requires : goal.store-requires
-store-requires c =
-    (
-      omega (arith, c.block_of-n.ensures, block_most c.args.c),
-      omega
-          (arith, c.block_of-n.ensures, c.requires.2),
-    )
+store-requires c = (
+  omega (arith, c.block_of-n.ensures, block_most c.args.c),
+  omega
+      (arith, c.block_of-n.ensures, c.requires.2),
+)
 
 pub returns : goal.returns
 returns c =
