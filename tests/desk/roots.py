@@ -12,21 +12,37 @@ KIT = "a-kit-1 logic 0123456789abcdef"
 # What another machine than x86-64 needs is left out.
 with open(os.path.join(support.ROOT, "tools", "machine"), encoding="utf-8") as file:
     MACHINE = "run=()\nprogram_needs=()\n# sources" + file.read().partition("# sources")[2]
-# rt as it is after a good proof; the program that it builds refuses every job with 6.
+# rt as it is after a good proof: it works in a crate's folder and leaves there what it made; the program refuses every job with 6. rt run says
+# on standard error what is not the program's.
 PROVES = """
-echo "$*" >> asked
-echo "rt: cells proved (1 s)"
-mkdir -p target/bin target/staticlib
-printf '#!/bin/sh\\necho 6 0 -\\n' > target/bin/sealjob && chmod +x target/bin/sealjob
-echo archive > target/staticlib/libauraski.a
-echo "rt: sealjob proved (unchanged since it was last proved)"
+crate=${PWD##*/}
+echo "$crate: $*" >> ../../asked
+mkdir -p out
+echo "fn $crate::f: proved" >&2
+if [ "$1" = run ]; then
+    printf '#!/bin/sh\\necho 6 0 -\\n' > out/$crate && chmod +x out/$crate
+    exec out/$crate
+fi
+echo archive > out/lib$crate.a
 """
-# rt as it starts provers: in the background, where they ignore Ctrl-C, and with their output in a file.
+# rt as it starts provers: in a process group of their own, which is ended as soon as rt is gone, however it went. What they print goes to rt.
 GOES_ON = """
-mkdir -p target/log
-(sleep 300; echo never) > target/log/cells.out 2>&1 &
+exec python3 -c '
+import os, subprocess
+ends, held = os.pipe()
+guard = subprocess.Popen(["sh", "-c", "read _; kill -9 0"], stdin=ends, stdout=subprocess.DEVNULL, preexec_fn=os.setpgrp)
+prover = subprocess.Popen(["sleep", "300"], stdout=subprocess.PIPE, preexec_fn=lambda: os.setpgid(0, guard.pid))
+with open("begun", "w") as file:
+    file.write(str(prover.pid))
+os.rename("begun", "../../prover")
+prover.communicate()
+'
+"""
+# rt as it would be if it started them beside it, where they ignore Ctrl-C, and with their output in a file.
+GOES_ON_BESIDE = """
+(sleep 300; echo never) > ../../said 2>&1 &
 echo $! > begun
-mv begun prover
+mv begun ../../prover
 wait
 """
 
@@ -37,11 +53,14 @@ class RootTest(support.DeskTest):
         self.root = self.path("a root")
         for name in ("tools", "desk"):
             shutil.copytree(os.path.join(support.ROOT, name), os.path.join(self.root, name))
-        os.makedirs(os.path.join(self.root, "crates", "cells"))
+        for name in ("cells", "sealjob", "auraski"):
+            os.makedirs(os.path.join(self.root, "crates", name))
         os.makedirs(os.path.join(self.root, "bin"))
         self.put("tools/machine", MACHINE)
-        self.put("crates.txt", "# of two crates\ncells:\nsealjob: cells io\nauraski: cells\n")
+        self.put("crates.txt", "# two crates for each\nsealjob: cells std\nauraski staticlib: cells\ncells: # alone\n")
         self.put("crates/cells/lib.rt", "one")
+        self.put("crates/sealjob/stdin", "a job")
+        self.put("crates/sealjob/stdout", "6 0 -\n")
         self.put("kit.txt", KIT + "\n")
         self.rt(PROVES)
 
@@ -56,7 +75,7 @@ class RootTest(support.DeskTest):
         os.chmod(self.at("bin/rt"), 0o755)
 
     def asked(self):
-        """What rt was asked to prove."""
+        """What rt was asked to prove, and in which crate's folder."""
         return self.read(self.at("asked")).decode().splitlines() if os.path.exists(self.at("asked")) else []
 
     def alone(self, *names):
@@ -74,9 +93,9 @@ class RootTest(support.DeskTest):
         return subprocess.run([self.at(f"tools/{name}"), *words], cwd=self.folder, env=self.environment(path, program), timeout=100,
                               stdin=subprocess.DEVNULL, stdout=subprocess.PIPE, stderr=subprocess.PIPE, text=True)
 
-    def stopped(self, number, group, name, *words):
+    def stopped(self, number, group, name, *words, script=GOES_ON):
         """A tool, stopped while a prover runs: its status, what it said, and whether the prover still runs."""
-        self.rt(GOES_ON)
+        self.rt(script)
         process = subprocess.Popen(
             [self.at(f"tools/{name}"), *words], cwd=self.folder, env=self.environment(), stdin=subprocess.DEVNULL,
             stdout=subprocess.PIPE, stderr=subprocess.PIPE, text=True, start_new_session=True,

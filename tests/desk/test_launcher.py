@@ -24,12 +24,12 @@ class Launcher(roots.RootTest):
 
     def test_built_once(self):
         ended = self.desk_tool(*SEAL)
-        self.assertEqual((ended.returncode, self.asked()), (1, ["check sealjob"]), ended)
+        self.assertEqual((ended.returncode, self.asked()), (1, ["cells: lib", "sealjob: run --cpu=x86-64"]), ended)
         self.assertTrue(ended.stderr.startswith(START), ended.stderr)
         self.assertIn("\nproved 1 of 2: cells\nproved 2 of 2: sealjob\n", ended.stderr)
         self.assertTrue(ended.stdout.startswith("answer   6 0 -\n"))
         self.assertEqual(self.desk_tool(*SEAL).stderr, "")
-        self.assertEqual(len(self.asked()), 1)
+        self.assertEqual(len(self.asked()), 2)
 
     def test_built_anew_if_a_crate_has_changed(self):
         self.desk_tool(*SEAL)
@@ -54,7 +54,7 @@ class Launcher(roots.RootTest):
                                                             "desk: sealjob can't be had, for the reason above, and nothing was run\n"))
 
     def test_changed_while_it_is_built(self):
-        self.rt(roots.PROVES + "echo two > crates/cells/lib.rt\n")
+        self.rt("echo two > ../cells/lib.rt\n" + roots.PROVES)
         ended = self.desk_tool(*SEAL)
         self.assertEqual(ended.returncode, 2)
         self.assertIn("program: not built: crates/ was changed meanwhile; run it again\n", ended.stderr)
