@@ -34,7 +34,7 @@ def costs():
     text = text_of("crates/ciphers/specs/Ciphers.antt")
     init, branch = (
         {f"{bits}-{tweakey}": int(count) for bits, tweakey, count in re.findall(rf"^{name} N(\d+)T(\d+) = (\d+)$", text, re.M)}
-        for name in ("initOf", "branchOf")
+        for name in ("init_of", "branch_of")
     )
     return {cipher: Cost(init[cipher] + branch[cipher], init[cipher] + 2 * branch[cipher], 2 * branch[cipher]) for cipher in CIPHERS}
 
@@ -137,10 +137,10 @@ class Page(RoundsTest):
 
     def test_fields(self):
         """What the list names is in the definitions, and no field of what a block asks for is left out."""
-        asked = set(re.findall(r"^  pub (\w+Asks) :", text_of("crates/modes/specs/Mode.antt"), re.M))
+        asked = set(re.findall(r"^  pub (\w+_asks) :", text_of("crates/modes/specs/Mode.antt"), re.M))
         for rows in tables("The list"):
             named = {name for row in rows for name in re.findall(r"`(\w+)`", row[-1])}
-            self.assertEqual({name for name in named if name.endswith("Asks")}, asked)
+            self.assertEqual({name for name in named if name.endswith("_asks")}, asked)
             for name in named - asked:
                 self.assertRegex(text_of("crates/modes/specs/Rounds.antt"), rf"(?m)^  {name} ")
 

@@ -21,7 +21,7 @@ def number(text):
 
 def defined():
     """By their numbers, from the definition that the proofs are about."""
-    table = between("crates/schemes/specs/Schemes.antt", "\nscheme1 = ", "schemeOf")
+    table = between("crates/schemes/specs/Schemes.antt", "\nscheme1 = ", "scheme_of")
     rows = [
         Scheme(mode.upper(), f"{bits}-{tweakey}", int(bits) // 8, int(nonce), int(header), int(body))
         for bits, tweakey, mode, nonce, header, body in re.findall(RECORD, table)
