@@ -30,7 +30,7 @@ exit status:
 ABOUT = """\
 Seals and opens records by hand with the proved program sealjob, runs job sheets, compares sealed
 runs block by block, and says in words what an answer means. `tools/desk COMMAND --help` says more
-of a command. The first job that is run has sealjob proved and built, which takes some six minutes.
+of a command. The first job that is run has sealjob proved and built, which takes several minutes.
 """
 
 EXAMPLES = """\

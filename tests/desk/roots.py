@@ -1,4 +1,4 @@
-"""A project's folder of the test's own, with the tools as they are, one crate, and programs in the place of rt: nothing is proved here."""
+"""A project's folder of the test's own, with the tools as they are, three crates, and programs in the place of rt: nothing is proved here."""
 import os
 import shutil
 import signal
