@@ -330,6 +330,7 @@ pub fn lay_keys(c: Cipher, keys: &mut [[u8; 8]; 97], m: usize, share: &[u8; 784]
 }
 
 // The keys of the first m rounds, for a tweak whose last byte changed by d.
+#[inline(never)]
 pub fn change_last(c: Cipher, keys: &mut [[u8; 8]; 97], m: usize, d: u8)
     requires { (m ≤ 87) × (length keys.old ≡ 97) }
     ensures { (length keys.new ≡ 97) × ((t u : Tweakey) → LastChanged (width_of c) (words_of c) d t u → RoundKeys (width_of c) (words_of c) m t keys.old → RoundKeys (width_of c) (words_of c) m u keys.new) }

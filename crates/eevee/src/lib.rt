@@ -154,6 +154,7 @@ fn back(
 // ---- the header
 
 // T_A with half 0 of a header block added.
+#[inline(never)]
 fn head_link(
     c: Cipher,
     share: &[u8; 784],

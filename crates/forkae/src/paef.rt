@@ -36,6 +36,7 @@ fn body_flag(full: bool) -> usize
 }
 
 // S with half 0 of a header block added.
+#[inline(never)]
 fn head_sum(
     c: Cipher,
     share: &[u8; 784],

@@ -16,6 +16,7 @@ use forkskinny::{fork_on, unfork_on};
 use states::{Left, Pair, State, Step};
 
 // The first block's: the nonce, 0000, 1 and the flag; every other's: zeros and the flag.
+#[inline(never)]
 fn tweak(nonce: &[u8], first: bool, flag: u8) -> [u8; 16]
     requires { (length nonce.now + 1 ≤ 16) × (flag ≤ 7) }
     ensures { take (length nonce.now + 1) result ≡ saef_tweak nonce.now first flag }
@@ -47,6 +48,7 @@ fn body_flag(full: bool) -> u8
 }
 
 // Half 0 of a masked header block.
+#[inline(never)]
 fn head_delta(
     c: Cipher,
     share: &[u8; 784],

@@ -44,6 +44,7 @@ pub fn lay(
 
 // Whether two tweaks of n bytes are the same but for the last byte, which may be the same too. (It is put into the old one, so that whole
 // blocks are compared: the compiler does that in few steps.)
+#[inline(never)]
 fn same_but_last(n: usize, old: [u8; 16], tweak: [u8; 16]) -> bool
     requires { (0 < n) × (n ≤ 16) }
     ensures { result ≡ true → take (n - 1) old ≡ take (n - 1) tweak }

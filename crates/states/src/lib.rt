@@ -84,6 +84,7 @@ pub fn takes_blank(k: Kind) -> bool
 }
 
 // A tweak: the nonce, and a number in the two bytes behind it, the high one first.
+#[inline(never)]
 pub fn numbered(nonce: &[u8], number: usize) -> [u8; 16]
     requires { length nonce.now + 2 ≤ 16 }
     ensures { take (length nonce.now + 2) result ≡ nonce.now ++ be16 number }

@@ -14,6 +14,7 @@ use ciphers::Cipher;
 use states::{Kind, State};
 
 // The block at the front of a part, not the last one.
+#[inline(never)]
 fn turn(
     c: Cipher,
     k: Kind,
@@ -36,6 +37,7 @@ fn turn(
 
 // Whether r bytes of the second block are the tag, and what stands behind r bytes of the last block is padding: one answer, told
 // when both were read to their ends.
+#[inline(never)]
 fn judge(n: usize, r: usize, block: [u8; 16], second: [u8; 16], tag: &[u8]) -> bool
     requires { (r ≤ n) × (n ≤ 16) }
     ensures { result ≡ (same (take r second) tag.now && same (take (n - r) (drop r block)) (take (n - r) (ten 15))) }
