@@ -32,10 +32,10 @@ joined a b c d ha hb hc hd =
 row_of_sum : (a b c d : ℕ) → a < 256 → b < 256 → c < 256 → d < 256 → row (lane (d * 16777216 + (c * 65536 + (b * 256 + a)))) ≡ four a b c d
 row_of_sum a b c d ha hb hc hd = fours (omega arith) (omega arith) (omega arith) (omega arith)
 
-pub word_Row
+pub word_row
     : (a b c d : ℕ) → a < 256 → b < 256 → c < 256 → d < 256
     → row (lane (bit_or (bit_or (bit_or a (b * 256 % 4294967296)) (c * 65536 % 4294967296)) (d * 16777216 % 4294967296))) ≡ four a b c d
-word_Row a b c d ha hb hc hd = ap (λ (x : ℕ). row (lane x)) (joined a b c d ha hb hc hd) ∙ row_of_sum a b c d ha hb hc hd
+word_row a b c d ha hb hc hd = ap (λ (x : ℕ). row (lane x)) (joined a b c d ha hb hc hd) ∙ row_of_sum a b c d ha hb hc hd
 
 -- ---- a word rotated
 
