@@ -132,7 +132,7 @@ class Builds(roots.RootTest):
             building.stdout.readline()
         self.assertEqual((building.communicate(timeout=50)[0], building.returncode, self.asked()), ("", 0, ASKED["program"]))
 
-    def test_built_anew(self):
+    def test_rt_forgets_what_it_built(self):
         """A program that was removed or changed, also what rt has of it."""
         for name in ("target/bin/sealjob", "crates/sealjob/out/sealjob"):
             self.tool("program")

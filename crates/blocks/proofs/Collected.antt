@@ -1,8 +1,8 @@
 -- The differences of two lists, collected by `|` from the front: 0 exactly where there are none.
---     or-none          a `|` is 0 exactly where both of its sides are
---     collected-none   nothing is collected yet
---     collected-more   the difference at i taken in
---     collected-all    all of them taken in
+--     or_none          a `|` is 0 exactly where both of its sides are
+--     collected_none   nothing is collected yet
+--     collected_more   the difference at i taken in
+--     collected_all    all of them taken in
 --     not_same         lists that are not equally long are not the same
 -- Assumes nothing.
 use mathlib.Core.Path.{◌≡◌, refl, sym, ap, ap₂, ◌∙◌}

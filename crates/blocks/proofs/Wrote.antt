@@ -1,6 +1,6 @@
 -- What a writer that goes on into the rest of a room has laid down so far.
 --     wrote_none   nothing
---     wrote-more   n bytes x more, by a callee that was lent the rest, `&mut room[at..]`, and put x at its front
+--     wrote_more   n bytes x more, by a callee that was lent the rest, `&mut room[at..]`, and put x at its front
 -- Assumes nothing.
 use mathlib.Core.Path.{◌≡◌, refl, ap, ◌∙◌}
 use mathlib.Core.List.{List, [], ◌++◌, append_assoc}

@@ -49,12 +49,12 @@ module _ (c : Cipher) (block : List ℕ) (want : ℕ) where
       → run ≡ fork_rounds c want
       → (key tweak : List ℕ) → Keys c (fork_reach c want) (tk c key tweak) keys
       → ◌≡◌ {A = Forked} (record { number = 0; half0 = half0; half1 = half1; rounds = run }) (fork_by c key tweak block want)
-  fork_parts {s = s} e₀ e₁ at_Fork h₀ h₁ er key tweak k =
+  fork_parts {s = s} e₀ e₁ at_fork h₀ h₁ er key tweak k =
       let t = tk c key tweak in
       let far = takes_far (wants 0 want) 0 (wants 1 want) 1 in
       let a = h₀ t (λ yes. fewer k _ (reach_branch c (side_of 0) far (far_first (wants 0 want) 0 (wants 1 want) 1 (sym e₀ ∙ yes)))) in
       let b = h₁ t (λ yes. fewer k _ (reach_branch c (side_of 1) far (far_second (wants 0 want) 0 (wants 1 want) 1 (sym e₁ ∙ yes)))) in
-      fork_made key tweak (at_Fork t (fewer k (init_of c) (reach_init c far)))
+      fork_made key tweak (at_fork t (fewer k (init_of c) (reach_init c far)))
       (a ∙ ap (λ (q : Bool). given q (branch c (side_of 0) t s)) e₀) (b ∙ ap (λ (q : Bool). given q (branch c (side_of 1) t s)) e₁) er
 
   -- both halves at once
@@ -66,13 +66,13 @@ module _ (c : Cipher) (block : List ℕ) (want : ℕ) where
       → (key tweak : List ℕ) → Keys c (fork_reach c want) (tk c key tweak) keys
       → ◌≡◌ {A = Forked} (record { number = 0; half0 = half0; half1 = half1; rounds = run }) (fork_by c key tweak block want)
   unfolding wants
-  fork_both {s = s} two at_Fork h er key tweak k =
+  fork_both {s = s} two at_fork h er key tweak k =
       let t = tk c key tweak in
       let far = takes_far (wants 0 want) 0 (wants 1 want) 1 in
       let yes₀ = ap (wants 0) two in
       let yes₁ = ap (wants 1) two in
       let (a, b) = h t (fewer k _ (reach_branch c Far far (far_second (wants 0 want) 0 (wants 1 want) 1 yes₁))) in
-      fork_made key tweak (at_Fork t (fewer k (init_of c) (reach_init c far)))
+      fork_made key tweak (at_fork t (fewer k (init_of c) (reach_init c far)))
       (a ∙ sym (ap (λ (q : Bool). given q (branch c Near t s)) yes₀)) (b ∙ sym (ap (λ (q : Bool). given q (branch c Far t s)) yes₁)) er
 
 module _ (c : Cipher) (block : List ℕ) (from want : ℕ) where

@@ -1,6 +1,6 @@
 -- How far a walk along sections has come: left ones of k still stand from a place on.
---     along-none, along-more   before the first; past one more, whose count is n
---     along-cut, along-all     what is answered where one is cut, and where none is left
+--     along_none, along_more   before the first; past one more, whose count is n
+--     along_cut, along_all     what is answered where one is cut, and where none is left
 -- Assumes nothing.
 use mathlib.Core.Path.{◌≡◌, refl, sym, ap, ◌∙◌}
 use mathlib.Core.Bool.{Bool, true, false}

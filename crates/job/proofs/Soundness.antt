@@ -1,6 +1,6 @@
 -- A sound job.
 --     sound       what it has: two bytes at its front, a direction, four whole sections and nothing behind
---     too_long, no_front, no-direction, as-sections   what the code tests
+--     too_long, no_front, no_direction, as_sections   what the code tests
 -- Assumes nothing.
 use mathlib.Core.Path.{◌≡◌, refl, sym, ap, ◌∙◌}
 use mathlib.Core.Bool.{Bool, true, false, cond, false≢true}

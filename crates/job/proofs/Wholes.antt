@@ -1,7 +1,7 @@
 -- Whole sections.
 --     whole_long     a whole section is its count and two bytes long, or longer
---     whole-short, whole-count   what the code tests
---     section-part, behind-part  what the code hands out
+--     whole_short, whole_count   what the code tests
+--     section_part, behind_part  what the code hands out
 --     cut, more, first   sections in a row, by the first of them
 -- Assumes nothing.
 use mathlib.Core.Path.{◌≡◌, refl, sym, ap, ◌∙◌}

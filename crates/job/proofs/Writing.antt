@@ -1,6 +1,6 @@
 -- A section that is written is read, and a section that is read was written.
---     with-count-..   of a section written in front of something: its count, that it is whole, its bytes, what stands behind it
---     written-so      a whole section of bytes is one that was written
+--     with_count_..   of a section written in front of something: its count, that it is whole, its bytes, what stands behind it
+--     written_so      a whole section of bytes is one that was written
 -- Assumes nothing.
 use mathlib.Core.Path.{◌≡◌, sym, ap, ◌∙◌}
 use mathlib.Core.Bool.{true}

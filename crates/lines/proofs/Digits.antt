@@ -1,7 +1,7 @@
 -- The texts of a line, place by place.
---     most-digits, field-*   a number and a space, from what `io::decimal` answers
+--     most_digits, field_*   a number and a space, from what `io::decimal` answers
 --     ended, ended-*         bytes in hex and the line's end
---     output-none, -some     what an output is where there are no bytes, and where there are
+--     output_none, _some     what an output is where there are no bytes, and where there are
 -- Assumes nothing.
 use mathlib.Core.Path.{◌≡◌, refl, sym, ap, ◌∙◌}
 use mathlib.Core.List.{List, [], ◌∷◌, ◌++◌}

@@ -1,7 +1,7 @@
 -- A mode looks at no block call but those that specs/Rounds.antt lists: two forkciphers that answer the listed calls alike seal alike and
 -- open alike, whatever they answer to any other call.
 --     Heeds                  one mode over two forkciphers: each of its lines is the same where they answer the line's call alike
---     seal-only, open-only   for every such mode
+--     seal_only, open_only   for every such mode
 --     paef-.., saef-..       for PAEF and SAEF
 -- Assumes nothing.
 use mathlib.Core.Path.{◌≡◌, refl, ap, ◌∙◌}

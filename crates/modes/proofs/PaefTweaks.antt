@@ -1,6 +1,6 @@
 -- Thirteen bits of number are enough for PAEF: where header and body have at most 8,191 blocks each, no two blocks of one record are
 -- worked under the same tweak.
---     same-tweak   a tweak tells its flag and its number
+--     same_tweak   a tweak tells its flag and its number
 --     Numbered     the i-th entry of a list is the tweak of number i + 1, with a flag between two bounds
 --     distinct     two such lists whose flags are apart
 -- Assumes nothing.

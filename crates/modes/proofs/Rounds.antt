@@ -1,8 +1,8 @@
 -- The rounds that a rule runs are the formula: for every mode whose calls cost the same from block to block, the sum over the list of its
 -- block calls is `rounds_by` of the lengths of header and body alone; and all our modes are such.
---     seal-total, open-total   the sum, of a record that is sealed and of a run that is opened
---     rounds-flat              the formula where the last block costs what the others do
---     rounds-few               up to 2^24 bytes each of header and body it is at most 2^29
+--     seal_total, open_total   the sum, of a record that is sealed and of a run that is opened
+--     rounds_flat              the formula where the last block costs what the others do
+--     rounds_few               up to 2^24 bytes each of header and body it is at most 2^29
 -- Assumes nothing.
 use mathlib.Core.Path.{◌≡◌, refl, sym, ap, ◌∙◌}
 use Prim.Native.Nat.{ℕ, zero, suc, ◌+◌, ◌-◌, ◌*◌, ◌≤◌, ◌<◌}

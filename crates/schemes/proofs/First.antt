@@ -1,6 +1,6 @@
 -- Which number a list of checks answers.
 --     first_says    k, exactly if the check with this number applies and none before it does; 0, if none applies
---     first-never   k never, if no check has this number and it is not 0
+--     first_never   k never, if no check has this number and it is not 0
 -- Assumes nothing.
 use mathlib.Core.Path.{◌≡◌, refl}
 use mathlib.Core.Logic.Iff

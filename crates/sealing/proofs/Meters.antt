@@ -1,7 +1,7 @@
 -- C-14, records from the meter people: what schemes 4 to 7 answer, on the definitions that the contracts cite.
---     seal-4 .. open-7              demand 2: the published modes, but for header and body both empty, which is 10 (`says_10`, Numbers.antt)
---     seal-as-sibling, open-as-..   bodies of at most one block: Umbreon and Jolteon answer alike, so that a record of one opens under the other
---     seal-rounds-4 .. -7           the rounds, by the lengths alone
+--     seal_4 .. open_7              demand 2: the published modes, but for header and body both empty, which is 10 (`says_10`, Numbers.antt)
+--     seal_as_sibling, open_as_..   bodies of at most one block: Umbreon and Jolteon answer alike, so that a record of one opens under the other
+--     seal_rounds_4 .. _7           the rounds, by the lengths alone
 -- Demand 3 is Demands.antt, for every scheme of the table; that within the limits no two blocks of a record have one tweak, crates/schemes
 -- (proofs/Tweaks.antt). Assumes nothing.
 use mathlib.Core.Path.{◌≡◌, refl, ◌∙◌}

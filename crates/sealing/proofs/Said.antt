@@ -1,8 +1,8 @@
 -- The number that a call tells (C-11): 1 where no scheme is named, else what the checks answer, and behind them 6 for a run that is
 -- not authentic.
---     said, said-1             from a scheme's number to the call's
---     after_check, -0, -6      which numbers come from the checks, and which behind them
---     short-is, forged-is, ..  what only an open can have
+--     said, said_1             from a scheme's number to the call's
+--     after_check, _0, _6      which numbers come from the checks, and which behind them
+--     short_is, forged_is, ..  what only an open can have
 -- Assumes nothing.
 use mathlib.Core.Path.{◌≡◌, refl, sym, ap, subst, ◌∙◌}
 use Prim.Native.Nat.{ℕ, zero, suc, ◌+◌, ◌-◌, ◌≤◌, ◌<◌}

@@ -1,8 +1,8 @@
 -- The end of a run in either order, by the places that the code gives to its block of n bytes and to the l leading bytes of the second;
 -- `ahead` says whether the block comes first.
---     block-there   what is loaded from the block's place
---     tag-there     what stands at the place of the leading bytes
---     both-put      what is left when each was stored at its place
+--     block_there   what is loaded from the block's place
+--     tag_there     what stands at the place of the leading bytes
+--     both_put      what is left when each was stored at its place
 -- Assumes nothing.
 use mathlib.Core.Path.{◌≡◌, refl, sym, ap, ◌∙◌, subst⁻¹}
 use mathlib.Core.Bool.{Bool, true, false, not, cond}

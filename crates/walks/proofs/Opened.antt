@@ -1,5 +1,5 @@
 -- Opening a run, from what the callees ensure.
---     open-ended   the last block, and the leading bytes of the second
+--     open_ended   the last block, and the leading bytes of the second
 --     OpenGoing    the loop's invariant: how it begins, what a turn and the end require, and what they do to it
 -- Assumes nothing.
 use mathlib.Core.Path.{◌≡◌, refl, sym, ap, ap₂, ◌∙◌, subst⁻¹}
