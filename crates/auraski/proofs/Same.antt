@@ -4,8 +4,7 @@ use Prim.Native.Nat.{ℕ}
 use mathlib.Core.List.{List}
 use Rattle.prepared.specs.Prepared.{prepare_of}
 use Rattle.forkskinny.specs.Calls.{fork_of, unfork_of, fork_with, unfork_with}
-use Rattle.sealing.specs.declared.Budget.{Budget}
-use Rattle.sealing.specs.Budget.{budget_of}
+use Rattle.sealing.specs.Budget.{Budget, budget_of}
 use Rattle.sealing.specs.Calls.{seal_of, open_of, seal_with, open_with}
 use Rattle.auraski.specs.Entries.{Blocks, blocks, halves_in, back_in, Answered, answered, answer_in, counted}
 use Rattle.auraski.specs.Rooms.{record_in, Prepares, prepared, prepared_in}

@@ -1,9 +1,8 @@
 -- What a C caller is told: the number returned, and what is written. Of an answer that is all but its rounds, which `auraski_rounds` tells by
 -- the lengths alone. Assumes nothing.
 use Rattle.std.specs.Prelude.{ℕ, List}
-use Rattle.forkskinny.specs.declared.Forked.{Forked}
-use Rattle.forkskinny.specs.declared.Unforked.{Unforked}
-use Rattle.sealing.specs.declared.Budget.{Budget}
+use Rattle.forkskinny.specs.Calls.{ForkTold, UnforkTold}
+use Rattle.sealing.specs.Budget.{Budget}
 use Rattle.sealing.specs.Calls.{Told}
 
 -- ---- a block call: both blocks
@@ -16,10 +15,10 @@ pub record Blocks : Type 0 where
 abbrev pub blocks : ℕ → List ℕ → List ℕ → Blocks
 blocks number first second = record { number = number; first = first; second = second }
 
-abbrev pub halves_in : Forked → Blocks
+abbrev pub halves_in : ForkTold → Blocks
 halves_in f = blocks f.number f.half0 f.half1
 
-abbrev pub back_in : Unforked → Blocks
+abbrev pub back_in : UnforkTold → Blocks
 back_in f = blocks f.number f.input f.other
 
 -- ---- seal and open: the length and the room

@@ -2,7 +2,7 @@
 -- Assumes nothing.
 use Rattle.std.specs.Prelude.{ℕ, ◌%◌, List, ◌∷◌, ◌++◌, get_or, take, drop}
 use Rattle.prepared.specs.declared.Prepared.{Prepared}
-use Rattle.prepared.specs.declared.Preparation.{Preparation}
+use Rattle.prepared.specs.Prepared.{Preparation}
 
 unfoldable pub laid_out : ℕ → (share tweak : List ℕ) → List ℕ
 laid_out cipher share tweak = (cipher ∷ share) ++ tweak

@@ -3,11 +3,55 @@
 
 pub mod with_prepared;
 
-ghost use Rattle.std.specs.Prelude.{◌≡◌};
-ghost use Rattle.forkskinny.specs.Calls.{fork_of, unfork_of};
+ghost use Rattle.std.specs.Prelude.{◌≡◌, List, ℕ};
+ghost use Rattle.forkskinny.specs.Calls.{fork_told, fork_of, unfork_told, unfork_of};
 ghost use Rattle.sealing.specs.Budget.{budget_of};
-ghost use Rattle.sealing.specs.Calls.{seal_of, open_of};
+ghost use Rattle.sealing.specs.Calls.{told, seal_of, open_of};
 ghost use Rattle.auraski.specs.Entries.{blocks, halves_in, back_in, answered, answer_in, counted};
+
+use forkskinny::{Forked, Unforked, calls};
+use refusals::Refusal;
+use sealing::Answer;
+
+// What a block call forward tells: the number, and both halves written, zeros where it is refused.
+fn tell_halves(answer: Result<Forked, Refusal>, half0: &mut [u8; 16], half1: &mut [u8; 16]) -> u32
+    ensures { blocks result half0.new half1.new ≡ halves_in (fork_told answer) }
+{
+    match answer {
+        Ok(f) => {
+            let first = f.half0;
+            let second = f.half1;
+            *half0 = first;
+            *half1 = second;
+            0
+        }
+        Err(refusal) => {
+            *half0 = [0; 16];
+            *half1 = [0; 16];
+            u32::from(refusal)
+        }
+    }
+}
+
+// What a block call back tells: the number, and the input block and the other half written, zeros where it is refused.
+fn tell_back(answer: Result<Unforked, Refusal>, input: &mut [u8; 16], other: &mut [u8; 16]) -> u32
+    ensures { blocks result input.new other.new ≡ back_in (unfork_told answer) }
+{
+    match answer {
+        Ok(f) => {
+            let first = f.input;
+            let second = f.other;
+            *input = first;
+            *other = second;
+            0
+        }
+        Err(refusal) => {
+            *input = [0; 16];
+            *other = [0; 16];
+            u32::from(refusal)
+        }
+    }
+}
 
 // ForkSkinny forward: the number, and both halves written.
 #[unsafe(no_mangle)]
@@ -22,12 +66,8 @@ pub extern "C" fn auraski_fork(
 ) -> u32
     ensures { blocks result half0.new half1.new ≡ halves_in (fork_of cipher key.now tweak.now block.now want) }
 {
-    let f = forkskinny::calls::fork_by_key(cipher, *key, *tweak, *block, want);
-    let a = f.half0;
-    let b = f.half1;
-    *half0 = a;
-    *half1 = b;
-    f.number
+    let answer = calls::fork_by_key(cipher, *key, *tweak, *block, want);
+    tell_halves(answer, half0, half1)
 }
 
 // ForkSkinny back from a half: the number, and the input block and the other half written.
@@ -44,12 +84,20 @@ pub extern "C" fn auraski_unfork(
 ) -> u32
     ensures { blocks result input.new other.new ≡ back_in (unfork_of cipher key.now tweak.now block.now from want) }
 {
-    let f = forkskinny::calls::unfork_by_key(cipher, *key, *tweak, *block, from, want);
-    let a = f.input;
-    let b = f.other;
-    *input = a;
-    *other = b;
-    f.number
+    let answer = calls::unfork_by_key(cipher, *key, *tweak, *block, from, want);
+    tell_back(answer, input, other)
+}
+
+// The number of an answer, and its length written; a refusal has none.
+fn tell(answer: Result<Answer, Refusal>, length: &mut usize) -> u32
+    ensures { (room : List ℕ) → answered result length.new room ≡ answer_in (told answer room) }
+{
+    let (number, size) = match answer {
+        Ok(done) => (0, done.length),
+        Err(refusal) => (u32::from(refusal), 0),
+    };
+    *length = size;
+    number
 }
 
 // Seals a body: the number, and the length of the sealed run at the front of the room written.
@@ -65,9 +113,8 @@ pub extern "C" fn auraski_seal(
 ) -> u32
     ensures { answered result length.new room.new ≡ answer_in (seal_of scheme key.now nonce.now header.now body.now room.old) }
 {
-    let a = sealing::seal_by_key(scheme, key, nonce, header, body, room);
-    *length = a.length;
-    a.number
+    let answer = sealing::seal_by_key(scheme, key, nonce, header, body, room);
+    tell(answer, length)
 }
 
 // Opens a sealed run: the number, and the length of the body at the front of the room written.
@@ -83,9 +130,8 @@ pub extern "C" fn auraski_open(
 ) -> u32
     ensures { answered result length.new room.new ≡ answer_in (open_of scheme key.now nonce.now header.now sealed.now room.old) }
 {
-    let b = sealing::open_by_key(scheme, key, nonce, header, sealed, room);
-    *length = b.length;
-    b.number
+    let answer = sealing::open_by_key(scheme, key, nonce, header, sealed, room);
+    tell(answer, length)
 }
 
 // Counts the rounds of a record by its lengths: the number, and the rounds of a seal or an open written.
@@ -93,7 +139,14 @@ pub extern "C" fn auraski_open(
 pub extern "C" fn auraski_rounds(scheme: u32, header: usize, body: usize, rounds: &mut u32) -> u32
     ensures { counted result rounds.new ≡ budget_of scheme header body }
 {
-    let c = sealing::rounds_of(scheme, header, body);
-    *rounds = c.rounds;
-    c.number
+    match sealing::rounds_of(scheme, header, body) {
+        Ok(count) => {
+            *rounds = count;
+            0
+        }
+        Err(refusal) => {
+            *rounds = 0;
+            u32::from(refusal)
+        }
+    }
 }

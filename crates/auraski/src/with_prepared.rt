@@ -6,25 +6,19 @@ ghost use Rattle.sealing.specs.Calls.{seal_with, open_with};
 ghost use Rattle.auraski.specs.Entries.{blocks, halves_in, back_in, answered, answer_in};
 ghost use Rattle.auraski.specs.Rooms.{record_in, laid_out, prepared, prepared_in};
 
+use crate::{tell, tell_back, tell_halves};
 use blocks::front;
-
-fn copied(part: &[u8]) -> [u8; 784]
-    requires { length part.now ≡ 784 }
-    ensures { result ≡ part.now }
-{
-    let mut share = [0u8; 784];
-    for i in 0..784 {
-        share[i] = part[i];
-    }
-    share
-}
+use forkskinny::calls;
+use prepared::Prepared;
 
 // The parts of the record that a room holds: its share,
 fn share_in(room: &[u8]) -> [u8; 784]
     requires { length room.now ≡ 801 }
     ensures { result ≡ take 784 (drop 1 room.now) }
 {
-    copied(&room[1..785])
+    let mut share = [0u8; 784];
+    share.copy_from_slice(&room[1..785]);
+    share
 }
 
 // its moving part,
@@ -43,19 +37,25 @@ fn cipher_in(room: &[u8]) -> u32
     room[0] as u32
 }
 
-// A record laid out in a room.
-fn lay_out(cipher: u8, share: [u8; 784], tweak: [u8; 16]) -> [u8; 801]
-    ensures { result ≡ laid_out cipher share tweak }
+// The record that a room holds.
+#[tactic(auto, unfolding(crate::specs::Rooms::record_in))]
+fn record_in(room: &[u8; 801]) -> Prepared
+    ensures { result ≡ record_in room.now }
 {
-    let mut room = [0u8; 801];
+    Prepared {
+        cipher: cipher_in(room),
+        share: share_in(room),
+        tweak: moving_in(room),
+    }
+}
+
+// A record laid out in a room, in place: a room that is handed out would be on the stack once more.
+fn lay_out(cipher: u8, share: &[u8; 784], tweak: &[u8; 16], room: &mut [u8; 801])
+    ensures { room.new ≡ laid_out cipher share.now tweak.now }
+{
     room[0] = cipher;
-    for i in 0..784 {
-        room[1 + i] = share[i];
-    }
-    for j in 0..16 {
-        room[785 + j] = tweak[j];
-    }
-    room
+    room[1..785].copy_from_slice(share);
+    room[785..].copy_from_slice(tweak);
 }
 
 // Prepares a key for a cipher: the number, and the record written.
@@ -63,13 +63,16 @@ fn lay_out(cipher: u8, share: [u8; 784], tweak: [u8; 16]) -> [u8; 801]
 pub extern "C" fn auraski_prepare(cipher: u32, key: &[u8], room: &mut [u8; 801]) -> u32
     ensures { prepared result room.new ≡ prepared_in (prepare_of cipher key.now) }
 {
-    let p = prepared::prepare(cipher, key);
-    let made = p.made;
-    let number = p.number;
-    let share = made.share;
-    let tweak = made.tweak;
-    *room = lay_out((made.cipher % 256) as u8, share, tweak);
-    number
+    match prepared::prepare(cipher, key) {
+        Ok(made) => {
+            lay_out((made.cipher % 256) as u8, &made.share, &made.tweak, room);
+            0
+        }
+        Err(refusal) => {
+            *room = [0; 801];
+            u32::from(refusal)
+        }
+    }
 }
 
 // ForkSkinny forward.
@@ -85,21 +88,8 @@ pub extern "C" fn auraski_fork_prepared(
 ) -> u32
     ensures { blocks result half0.new half1.new ≡ halves_in (fork_with cipher (record_in key.now) tweak.now block.now want) }
 {
-    let share = share_in(key);
-    let f = forkskinny::calls::fork_lent(
-        cipher,
-        cipher_in(key),
-        &share,
-        moving_in(key),
-        *tweak,
-        *block,
-        want,
-    );
-    let a = f.half0;
-    let b = f.half1;
-    *half0 = a;
-    *half1 = b;
-    f.number
+    let answer = calls::fork(cipher, &record_in(key), *tweak, *block, want);
+    tell_halves(answer, half0, half1)
 }
 
 // ForkSkinny back from a half.
@@ -116,22 +106,8 @@ pub extern "C" fn auraski_unfork_prepared(
 ) -> u32
     ensures { blocks result input.new other.new ≡ back_in (unfork_with cipher (record_in key.now) tweak.now block.now from want) }
 {
-    let share = share_in(key);
-    let f = forkskinny::calls::unfork_lent(
-        cipher,
-        cipher_in(key),
-        &share,
-        moving_in(key),
-        *tweak,
-        *block,
-        from,
-        want,
-    );
-    let a = f.input;
-    let b = f.other;
-    *input = a;
-    *other = b;
-    f.number
+    let answer = calls::unfork(cipher, &record_in(key), *tweak, *block, from, want);
+    tell_back(answer, input, other)
 }
 
 // Seals a body.
@@ -147,19 +123,8 @@ pub extern "C" fn auraski_seal_prepared(
 ) -> u32
     ensures { answered result length.new room.new ≡ answer_in (seal_with scheme (record_in key.now) nonce.now header.now body.now room.old) }
 {
-    let share = share_in(key);
-    let a = sealing::seal_lent(
-        scheme,
-        cipher_in(key),
-        &share,
-        moving_in(key),
-        nonce,
-        header,
-        body,
-        room,
-    );
-    *length = a.length;
-    a.number
+    let answer = sealing::seal(scheme, &record_in(key), nonce, header, body, room);
+    tell(answer, length)
 }
 
 // Opens a sealed run.
@@ -175,17 +140,6 @@ pub extern "C" fn auraski_open_prepared(
 ) -> u32
     ensures { answered result length.new room.new ≡ answer_in (open_with scheme (record_in key.now) nonce.now header.now sealed.now room.old) }
 {
-    let share = share_in(key);
-    let b = sealing::open_lent(
-        scheme,
-        cipher_in(key),
-        &share,
-        moving_in(key),
-        nonce,
-        header,
-        sealed,
-        room,
-    );
-    *length = b.length;
-    b.number
+    let answer = sealing::open(scheme, &record_in(key), nonce, header, sealed, room);
+    tell(answer, length)
 }

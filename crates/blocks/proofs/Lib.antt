@@ -1,4 +1,5 @@
 pub mod Collected
+pub mod Made
 pub mod Over
 pub mod Parts
 pub mod Wrote

@@ -1,27 +1,17 @@
 -- What is loaded from the front of a part is its block, padded where the part is short of one. Assumes nothing.
 use mathlib.Core.Path.{◌≡◌, refl, sym, ap, ◌∙◌}
 use mathlib.Core.List.{List, ◌∷◌, ◌++◌}
-use Prim.Native.Nat.{ℕ, zero, suc, ◌+◌, ◌-◌, ◌<◌, ◌≤◌}
-use native.Mathlib.Nat.{suc-sub-suc, sub-zero, zero-sub}
+use Prim.Native.Nat.{ℕ, suc, ◌+◌, ◌-◌, ◌<◌, ◌≤◌}
 use native.Mathlib.Omega.{arith}
-use lib.ListN.{length, take, drop, set, replicate}
+use lib.ListN.{length, take, set, replicate}
 use lib.Seq.{take_all, take_at, length-take-le, set_at, take-append-add}
+use Rattle.std.proofs.lemmas.List.{take-replicate}
 use Rattle.modes.specs.Blocks.{pad}
 use Rattle.modes.proofs.Bytes.{pad_long, pad_short}
-
-pub drop_replicate : (k n v : ℕ) → drop k (replicate n v) ≡ replicate (n - k) v
-drop_replicate zero n v = ap (λ (m : ℕ). replicate m v) (sym (sub-zero n))
-drop_replicate (suc k) zero v = ap (λ (m : ℕ). replicate m v) (sym (zero-sub (suc k)))
-drop_replicate (suc k) (suc n) v = drop_replicate k n v ∙ ap (λ (m : ℕ). replicate m v) (sym (suc-sub-suc n k))
 
 -- a part with a whole block
 pub load_full : (n : ℕ) (part zeros : List ℕ) → n ≤ length part → take n (take n part ++ zeros) ≡ pad n part
 load_full n part zeros h = take_at (take n part) zeros n (length-take-le n part h) ∙ sym (pad_long n part h)
-
-take_replicate : (k n : ℕ) → k ≤ n → take k (replicate n 0) ≡ replicate {A = ℕ} k 0
-take_replicate zero n h = refl
-take_replicate (suc k) zero h = absurd (omega arith)
-take_replicate (suc k) (suc n) h = ap (λ (r : List ℕ). 0 ∷ r) (take_replicate k n (omega arith))
 
 -- a part that is short of one
 pub load_short
@@ -34,5 +24,5 @@ load_short n part h k =
     rw (take_all (length part) part b, z, set_at part 0 (replicate (15 - length part) 0) 128 (length part) refl)
     (ap (λ (j : ℕ). take j (part ++ 128 ∷ replicate (15 - length part) 0)) e
     ∙ take-append-add part (128 ∷ replicate (15 - length part) 0) (suc (n - suc (length part)))
-    ∙ ap (λ (r : List ℕ). part ++ 128 ∷ r) (take_replicate (n - suc (length part)) (15 - length part) (omega arith))
+    ∙ ap (λ (r : List ℕ). part ++ 128 ∷ r) (take-replicate (n - suc (length part)) (15 - length part) 0 (omega arith))
     ∙ sym (pad_short n part h))

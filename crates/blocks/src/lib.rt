@@ -10,11 +10,7 @@ pub fn front(part: &[u8], k: usize) -> [u8; 16]
     ensures { result ≡ take k part.now ++ replicate (16 - k) 0 }
 {
     let mut b = [0u8; 16];
-    let mut i = 0;
-    while i < k {
-        b[i] = part[i];
-        i += 1;
-    }
+    b[..k].copy_from_slice(&part[..k]);
     b
 }
 
@@ -40,11 +36,7 @@ fn put(rest: &mut [u8], block: [u8; 16], k: usize)
     requires { (k ≤ 16) × (k ≤ length rest.old) }
     ensures { rest.new ≡ take k block ++ drop k rest.old }
 {
-    let mut i = 0;
-    while i < k {
-        rest[i] = block[i];
-        i += 1;
-    }
+    rest[..k].copy_from_slice(&block[..k]);
 }
 
 // The same, a whole block apart.
@@ -64,24 +56,14 @@ pub fn clear(room: &mut [u8], k: usize)
     requires { k ≤ length room.old }
     ensures { room.new ≡ replicate k 0 ++ drop k room.old }
 {
-    let mut i = 0;
-    while i < k {
-        room[i] = 0;
-        i += 1;
-    }
+    room[..k].fill(0);
 }
 
 // Byte by byte xor.
 pub fn xored(a: [u8; 16], b: [u8; 16]) -> [u8; 16]
     ensures { result ≡ a ⊕ b }
 {
-    let mut r = a;
-    let mut i = 0;
-    while i < 16 {
-        r[i] = a[i] ^ b[i];
-        i += 1;
-    }
-    r
+    std::array::from_fn(|i| a[i] ^ b[i])
 }
 
 // The differences of two parts, collected: 0 exactly where they hold the same bytes. No byte ends it early; lengths are no secret.
@@ -91,13 +73,7 @@ pub fn differences(a: &[u8], b: &[u8]) -> u8
     if a.len() != b.len() {
         return 1;
     }
-    let mut d = 0;
-    let mut at = 0;
-    while at < a.len() {
-        d = d | (a[at] ^ b[at]);
-        at += 1;
-    }
-    d
+    a.iter().zip(b.iter()).fold(0, |d, (x, y)| d | (x ^ y))
 }
 
 // Whether two parts hold the same bytes.

@@ -2,6 +2,7 @@
 // Cells are worked out from bits (words.rt). The tables stand here to be held to the rule, entry by entry; no code reads them.
 #![tactic(auto)]
 
+pub mod kinds;
 pub mod words;
 
 ghost use Rattle.std.specs.Prelude.{◌≡◌};

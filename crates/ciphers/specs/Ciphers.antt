@@ -1,10 +1,12 @@
 -- The ciphers: their sizes, blocks and keys as cells, and the branch constant. "01" is the desk's document 01, "ForkSkinny, the
 -- cells"; "001" the Forkcipher paper, and "enc" and "dec" the lines of its figure 4. Assumes nothing.
-use Rattle.std.specs.Prelude.{ℕ, zero, suc, ◌+◌, ◌*◌, ◌/◌, ◌%◌, cond, List, [], ◌∷◌, ◌++◌, eqb, get_or, take, replicate}
+use Rattle.std.specs.Prelude.{Result, Ok, Err, ℕ, zero, suc, ◌+◌, ◌*◌, ◌/◌, ◌%◌, cond, List, [], ◌∷◌, ◌++◌, eqb, get_or, take, replicate}
 use Rattle.std.specs.Int.Bits.{bit_xor}
 use Rattle.cells.specs.Cells.{Width, Nibble, Byte, Words, Two, Three, step2}
 use Rattle.schedule.specs.declared.Tweakey.{Tweakey}
 use Rattle.rounds.specs.State.{State, cell, grid}
+use Rattle.refusals.specs.declared.Refusal.{Refusal}
+use Rattle.refusals.specs.declared.Refusal.TheVariants.{Unknown}
 use Rattle.ciphers.specs.declared.Cipher.{Cipher}
 use Rattle.ciphers.specs.declared.Cipher.TheVariants.{N64T192, N128T256}
 
@@ -41,6 +43,10 @@ number_of N128T256 = 2
 -- the answer under the cipher that a number names, or the refusal
 abbrev pub under_cipher : {A : Type 0} → ℕ → (Cipher → A) → A → A
 under_cipher cipher f refused = cond (eqb cipher 1) (f N64T192) (cond (eqb cipher 2) (f N128T256) refused)
+
+-- the cipher that a number names, or a refusal
+abbrev pub cipher_named : ℕ → Result Cipher Refusal
+cipher_named cipher = under_cipher cipher Ok (Err Unknown)
 
 -- ---- cells and bytes
 

@@ -2,29 +2,48 @@
 #![tactic(auto)]
 
 ghost use Rattle.std.specs.Prelude.{◌≡◌, ◌≤◌, length, replicate};
-ghost use Rattle.cells.specs.Cells.{Nibble, Byte, Bytes};
+ghost use Rattle.cells.specs.Cells.{Nibble, Byte};
 ghost use Rattle.constants.specs.Constants.{Room};
 ghost use Rattle.schedule.specs.declared.Tweakey.{Tweakey};
 ghost use Rattle.schedule.specs.Schedule.{RoundKeys};
 ghost use Rattle.schedule.specs.Share.{Parts, LastChanged};
-ghost use Rattle.ciphers.specs.Ciphers.{number_of, width_of, words_of, init_of, branch_of, block_of, loaded, load, unloaded, unload, cell_of, sixteen, key_cells, tweak_cells, tk, xored, branch_constant, add_branch};
+ghost use Rattle.ciphers.specs.Ciphers.{number_of, cipher_named, width_of, words_of, init_of, branch_of, block_of, loaded, load, unloaded, unload, cell_of, sixteen, key_cells, tweak_cells, tk, xored, branch_constant, add_branch};
 
-use schedule::Tweakey;
+use cells::kinds;
+use refusals::Refusal;
+use schedule::{LastByte, Tweakey};
 
 // By the bits of the block and of the tweakey, as the paper names its ciphers: 64-192 and 128-256.
-#[derive(Clone, Copy)]
+#[derive(Clone, Copy, Debug, PartialEq, Eq)]
 pub enum Cipher {
     N64T192,
     N128T256,
 }
 
 // The number that names a cipher in a call.
-pub fn number_of(c: Cipher) -> u32
-    ensures { result ≡ number_of c }
-{
-    match c {
-        Cipher::N64T192 => 1,
-        Cipher::N128T256 => 2,
+impl From<Cipher> for u32 {
+    ghost from_gives = { λ c number. number ≡ number_of c };
+
+    fn from(c: Cipher) -> u32 {
+        match c {
+            Cipher::N64T192 => 1,
+            Cipher::N128T256 => 2,
+        }
+    }
+}
+
+// The cipher that a number names in a call; every other number is refused.
+impl TryFrom<u32> for Cipher {
+    type Error = Refusal;
+
+    ghost try_from_gives = { λ number c. c ≡ cipher_named number };
+
+    fn try_from(number: u32) -> Result<Cipher, Refusal> {
+        match number {
+            1 => Ok(Cipher::N64T192),
+            2 => Ok(Cipher::N128T256),
+            _ => Err(Refusal::Unknown),
+        }
     }
 }
 
@@ -308,15 +327,6 @@ pub fn add_branch(c: Cipher, s: [[u8; 4]; 4]) -> [[u8; 4]; 4]
 
 // ---- what a call makes once
 
-fn nothing() {}
-
-// What an array of bytes holds is bytes: the checker knows it of a slice that is passed on. (No code is left of this.)
-pub fn bytes_known(s: &[u8])
-    ensures { Bytes s.now }
-{
-    nothing();
-}
-
 // The keys of the first m rounds, laid on the constants, from a key's share and a tweak. (The cells of a tweak are made in each case: so the
 // compiler keeps them together.)
 pub fn lay_keys(c: Cipher, keys: &mut [[u8; 8]; 97], m: usize, share: &[u8; 784], tweak: [u8; 16])
@@ -324,8 +334,13 @@ pub fn lay_keys(c: Cipher, keys: &mut [[u8; 8]; 97], m: usize, share: &[u8; 784]
     ensures { (length keys.new ≡ 97) × ((t : Tweakey) → Parts (width_of c) (words_of c) t share.now (tweak_cells c tweak) → RoundKeys (width_of c) (words_of c) m t keys.new) }
 {
     match c {
-        Cipher::N64T192 => schedule::lay_keys_64_192(keys, m, share, tweak_nibbles(tweak)),
-        Cipher::N128T256 => schedule::lay_keys_128_256(keys, m, share, tweak_bytes(tweak)),
+        Cipher::N64T192 => schedule::lay_keys::<kinds::Nibbles>(
+            keys,
+            m,
+            share,
+            tweak_nibbles(tweak),
+        ),
+        Cipher::N128T256 => schedule::lay_keys::<kinds::Bytes>(keys, m, share, tweak_bytes(tweak)),
     }
 }
 
@@ -336,7 +351,7 @@ pub fn change_last(c: Cipher, keys: &mut [[u8; 8]; 97], m: usize, d: u8)
     ensures { (length keys.new ≡ 97) × ((t u : Tweakey) → LastChanged (width_of c) (words_of c) d t u → RoundKeys (width_of c) (words_of c) m t keys.old → RoundKeys (width_of c) (words_of c) m u keys.new) }
 {
     match c {
-        Cipher::N64T192 => schedule::change_last_64_192(keys, m, d),
-        Cipher::N128T256 => schedule::change_last_128_256(keys, m, d),
+        Cipher::N64T192 => kinds::Nibbles::change_last(keys, m, d),
+        Cipher::N128T256 => kinds::Bytes::change_last(keys, m, d),
     }
 }

@@ -1,71 +1,76 @@
-// Jolteon's body blocks that are not the last.
-ghost use Rattle.std.specs.Prelude.{◌≡◌, ◌+◌, ◌≤◌, length};
-ghost use Rattle.ciphers.specs.Ciphers.{block_of};
-ghost use Rattle.prepared.specs.Prepared.{key_in};
-ghost use Rattle.kept.specs.Kept.{Lent};
-ghost use Rattle.states.specs.declared.Kind.TheVariants.{Jolteon};
-ghost use Rattle.states.specs.Modes.{mode_of};
-ghost use Rattle.states.specs.Steps.{Stepped};
-ghost use Rattle.eevee.specs.Made.{collected_of};
+// Jolteon: the body blocks that are not the last are its own.
+ghost use Rattle.std.specs.Prelude.{◌≡◌, ◌≤◌};
+ghost use Rattle.states.specs.declared.Kind.{Kind};
+ghost use Rattle.states.specs.Steps.{HeadEnd, SealEnd, OpenEnd};
+ghost use Rattle.eevee.specs.Made.{Fills, collected_of};
 
 use crate::{half, input};
 use blocks::xored;
-use ciphers::Cipher;
-use kept::Kept;
-use states::{State, Step};
+use states::{Kind, Pair, State, Step, Under};
+use steps::Mode;
+
+#[derive(Clone, Copy)]
+pub struct Jolteon;
 
 // A block given; Delta takes the body's block and the sealed one before, and `link` is the sealed one.
-fn collected(s: State, out: [u8; 16], block: [u8; 16], link: [u8; 16], kept: Kept) -> Step
+fn collected(s: State, out: [u8; 16], block: [u8; 16], link: [u8; 16]) -> Step
     requires { s.number ≤ 4294967296 }
-    ensures { result ≡ collected_of s out block link kept }
+    ensures { result ≡ collected_of s out block link }
 {
-    let delta = s.delta;
-    let before = s.mask;
-    let with_block = xored(delta, block);
     Step {
         out,
         next: State {
             mask: link,
-            delta: xored(with_block, before),
+            delta: xored(xored(s.delta, block), s.mask),
             number: s.number + 1,
             first: false,
-            kept,
         },
     }
 }
 
-pub fn seal_block(
-    c: Cipher,
-    share: &[u8; 784],
-    nonce: &[u8],
-    keys: &mut [[u8; 8]; 97],
-    s: State,
-    x: [u8; 16],
-) -> Step
-    requires { (length nonce.now + 2 ≡ block_of c) × (s.number ≤ 4294967296) × Lent c share.now s.kept keys.old }
-    ensures { Stepped Jolteon (block_of c) (mode_of Jolteon c (key_in c share.now) nonce.now).out (mode_of Jolteon c (key_in c share.now) nonce.now).next s x result.out result.next × Lent c share.now result.next.kept keys.new }
-{
-    let old = s.kept;
-    let f = half(c, share, nonce, keys, s.number + 1, old, x);
-    let sealed = f.mask;
-    let kept = f.kept;
-    collected(s, sealed, x, sealed, kept)
-}
+// The steps of a last block ask less than a mode's: nothing of the number.
+impl Mode for Jolteon {
+    ghost kind = { Kind.Jolteon };
 
-pub fn open_block(
-    c: Cipher,
-    share: &[u8; 784],
-    nonce: &[u8],
-    keys: &mut [[u8; 8]; 97],
-    s: State,
-    x: [u8; 16],
-) -> Step
-    requires { (length nonce.now + 2 ≡ block_of c) × (s.number ≤ 4294967296) × Lent c share.now s.kept keys.old }
-    ensures { Stepped Jolteon (block_of c) (mode_of Jolteon c (key_in c share.now) nonce.now).back (mode_of Jolteon c (key_in c share.now) nonce.now).back_next s x result.out result.next × Lent c share.now result.next.kept keys.new }
-{
-    let old = s.kept;
-    let u = input(c, share, nonce, keys, s.number + 1, old, x);
-    let block = u.mask;
-    let kept = u.kept;
-    collected(s, block, block, x, kept)
+    fn kind() -> Kind {
+        Kind::Jolteon
+    }
+
+    fn head(under: &mut Under, s: State, x: [u8; 16]) -> State {
+        crate::head(under, s, x)
+    }
+
+    fn head_last(under: &mut Under, empty: bool, full: bool, s: State, x: [u8; 16]) -> State
+        requires { Fills under.old }
+        ensures stepped { HeadEnd Kind.Jolteon under.old empty full s x result }
+        ensures same { under.new ≡ under.old }
+    {
+        crate::head_last(under, empty, full, s, x)
+    }
+
+    fn seal_block(under: &mut Under, s: State, x: [u8; 16]) -> Step {
+        let sealed = half(under, s.number + 1, x);
+        collected(s, sealed, x, sealed)
+    }
+
+    fn seal_last(under: &mut Under, full: bool, s: State, x: [u8; 16]) -> Pair
+        requires { Fills under.old }
+        ensures stepped { SealEnd Kind.Jolteon under.old full s x result }
+        ensures same { under.new ≡ under.old }
+    {
+        crate::seal_last(under, full, s, x)
+    }
+
+    fn open_block(under: &mut Under, s: State, x: [u8; 16]) -> Step {
+        let block = input(under, s.number + 1, x);
+        collected(s, block, block, x)
+    }
+
+    fn open_last(under: &mut Under, full: bool, s: State, x: [u8; 16]) -> Pair
+        requires { Fills under.old }
+        ensures stepped { OpenEnd Kind.Jolteon under.old full s x result }
+        ensures same { under.new ≡ under.old }
+    {
+        crate::open_last(under, full, s, x)
+    }
 }

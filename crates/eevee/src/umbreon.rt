@@ -1,76 +1,76 @@
-// Umbreon's body blocks that are not the last.
-ghost use Rattle.std.specs.Prelude.{◌≡◌, ◌+◌, ◌≤◌, length};
-ghost use Rattle.ciphers.specs.Ciphers.{block_of};
-ghost use Rattle.prepared.specs.Prepared.{key_in};
-ghost use Rattle.kept.specs.Kept.{Lent};
-ghost use Rattle.states.specs.declared.Kind.TheVariants.{Umbreon};
-ghost use Rattle.states.specs.Modes.{mode_of};
-ghost use Rattle.states.specs.Steps.{Stepped};
-ghost use Rattle.eevee.specs.Made.{linked_of};
+// Umbreon: the body blocks that are not the last are its own.
+ghost use Rattle.std.specs.Prelude.{◌≡◌, ◌≤◌};
+ghost use Rattle.states.specs.declared.Kind.{Kind};
+ghost use Rattle.states.specs.Steps.{HeadEnd, SealEnd, OpenEnd};
+ghost use Rattle.eevee.specs.Made.{Fills, linked_of};
 
 use crate::{back, both};
 use blocks::xored;
-use ciphers::Cipher;
-use kept::Kept;
-use states::{State, Step};
+use states::{Kind, Pair, State, Step, Under};
+use steps::Mode;
+
+#[derive(Clone, Copy)]
+pub struct Umbreon;
 
 // A block given; Delta takes the T_A that was used, and `link` is the next one.
-fn linked(s: State, out: [u8; 16], link: [u8; 16], kept: Kept) -> Step
+fn linked(s: State, out: [u8; 16], link: [u8; 16]) -> Step
     requires { s.number ≤ 4294967296 }
-    ensures { result ≡ linked_of s out link kept }
+    ensures { result ≡ linked_of s out link }
 {
-    let delta = s.delta;
-    let used = s.mask;
     Step {
         out,
         next: State {
             mask: link,
-            delta: xored(delta, used),
+            delta: xored(s.delta, s.mask),
             number: s.number + 1,
             first: false,
-            kept,
         },
     }
 }
 
-pub fn seal_block(
-    c: Cipher,
-    share: &[u8; 784],
-    nonce: &[u8],
-    keys: &mut [[u8; 8]; 97],
-    s: State,
-    x: [u8; 16],
-) -> Step
-    requires { (length nonce.now + 2 ≡ block_of c) × (s.number ≤ 4294967296) × Lent c share.now s.kept keys.old }
-    ensures { Stepped Umbreon (block_of c) (mode_of Umbreon c (key_in c share.now) nonce.now).out (mode_of Umbreon c (key_in c share.now) nonce.now).next s x result.out result.next × Lent c share.now result.next.kept keys.new }
-{
-    let link = s.mask;
-    let y = xored(x, link);
-    let old = s.kept;
-    let p = both(c, share, nonce, keys, s.number + 1, old, y);
-    let out = p.first;
-    let next = p.second;
-    let kept = p.kept;
-    linked(s, out, next, kept)
-}
+// The steps of a last block ask less than a mode's: nothing of the number.
+impl Mode for Umbreon {
+    ghost kind = { Kind.Umbreon };
 
-pub fn open_block(
-    c: Cipher,
-    share: &[u8; 784],
-    nonce: &[u8],
-    keys: &mut [[u8; 8]; 97],
-    s: State,
-    x: [u8; 16],
-) -> Step
-    requires { (length nonce.now + 2 ≡ block_of c) × (s.number ≤ 4294967296) × Lent c share.now s.kept keys.old }
-    ensures { Stepped Umbreon (block_of c) (mode_of Umbreon c (key_in c share.now) nonce.now).back (mode_of Umbreon c (key_in c share.now) nonce.now).back_next s x result.out result.next × Lent c share.now result.next.kept keys.new }
-{
-    let old = s.kept;
-    let p = back(c, share, nonce, keys, s.number + 1, old, x);
-    let masked = p.first;
-    let next = p.second;
-    let kept = p.kept;
-    let link = s.mask;
-    let out = xored(masked, link);
-    linked(s, out, next, kept)
+    fn kind() -> Kind {
+        Kind::Umbreon
+    }
+
+    fn head(under: &mut Under, s: State, x: [u8; 16]) -> State {
+        crate::head(under, s, x)
+    }
+
+    fn head_last(under: &mut Under, empty: bool, full: bool, s: State, x: [u8; 16]) -> State
+        requires { Fills under.old }
+        ensures stepped { HeadEnd Kind.Umbreon under.old empty full s x result }
+        ensures same { under.new ≡ under.old }
+    {
+        crate::head_last(under, empty, full, s, x)
+    }
+
+    fn seal_block(under: &mut Under, s: State, x: [u8; 16]) -> Step {
+        let p = both(under, s.number + 1, xored(x, s.mask));
+        linked(s, p.first, p.second)
+    }
+
+    fn seal_last(under: &mut Under, full: bool, s: State, x: [u8; 16]) -> Pair
+        requires { Fills under.old }
+        ensures stepped { SealEnd Kind.Umbreon under.old full s x result }
+        ensures same { under.new ≡ under.old }
+    {
+        crate::seal_last(under, full, s, x)
+    }
+
+    fn open_block(under: &mut Under, s: State, x: [u8; 16]) -> Step {
+        let p = back(under, s.number + 1, x);
+        linked(s, xored(p.first, s.mask), p.second)
+    }
+
+    fn open_last(under: &mut Under, full: bool, s: State, x: [u8; 16]) -> Pair
+        requires { Fills under.old }
+        ensures stepped { OpenEnd Kind.Umbreon under.old full s x result }
+        ensures same { under.new ≡ under.old }
+    {
+        crate::open_last(under, full, s, x)
+    }
 }

@@ -1,15 +1,14 @@
 -- What PAEF's functions make is what figure 5 says. Assumes nothing.
-use mathlib.Core.Path.{◌≡◌, ap, ◌∙◌, subst, subst⁻¹}
+use mathlib.Core.Path.{◌≡◌, ap, ◌∙◌, subst⁻¹}
 use mathlib.Core.Bool.{Bool}
 use mathlib.Core.List.{List}
 use Prim.Native.Nat.{ℕ, ◌+◌}
 use native.Mathlib.Omega.{arith}
 use lib.ListN.{length, take}
-use Rattle.ciphers.specs.declared.Cipher.{Cipher}
 use Rattle.ciphers.specs.Ciphers.{block_of}
 use Rattle.forkskinny.specs.declared.Forked.{Forked}
 use Rattle.forkskinny.specs.declared.Unforked.{Unforked}
-use Rattle.forkskinny.specs.Calls.{wants, fork_by, unfork_by}
+use Rattle.forkskinny.specs.Calls.{ForkTold, UnforkTold, wants, fork_by, fork_done, unfork_by, unfork_done}
 use Rattle.forkskinny.proofs.Forkcipher.{half_long, input_long, other_long}
 use Rattle.modes.specs.Blocks.{◌⊕◌}
 use Rattle.modes.specs.Forkcipher.{Fork}
@@ -22,15 +21,15 @@ use Rattle.states.specs.declared.Step.{Step}
 use Rattle.states.specs.Skinny.{skinny}
 use Rattle.states.specs.Modes.{state_of}
 use Rattle.states.specs.Steps.{Stepped, Paired}
-use Rattle.forkae.specs.Made.{added_of}
+use Rattle.states.specs.Under.{KeyAndNonce}
+use Rattle.forkae.specs.Made.{SumBoth, SumBack, added_of}
 use Rattle.states.proofs.Skinny.{half_is, input_is, other_is}
 
 -- S with the second block of a pair added
-pub summed : (n : ℕ) (f g : Sum → List ℕ → List ℕ) (s : State) (x : List ℕ) (p : Pair) → Paired Paef n f g s x p.first p.second
-    → (r : Step) → r ≡ added_of s p
+pub summed : {n : ℕ} {f g : Sum → List ℕ → List ℕ} {s : State} {x : List ℕ} {p : Pair} → Paired Paef n f g s x p.first p.second
+    → {r : Step} → r ≡ added_of s p
     → Stepped Paef n f (λ t y. record { sum = t.sum ⊕ g t y; number = t.number + 1 }) s x r.out r.next
-unfolding added_of
-summed n f g s x p h r e =
+summed {n} {f} {g} {s} {x} {p} h e =
     subst⁻¹
     (λ (r : Step). Stepped Paef n f (λ t y. record { sum = t.sum ⊕ g t y; number = t.number + 1 }) s x r.out r.next)
     e
@@ -44,12 +43,12 @@ summed n f g s x p h r e =
     })
 
 -- the last block, of which the second comes as it is: S goes on to the first, or comes off what is taken back
-module _ (n : ℕ) (F : Fork) (nonce : List ℕ) (full : Bool) (flag : ℕ) (e : flag ≡ paef_body full) (s : State) (x : List ℕ) where
-  pub last_paired : (p : Pair) → Paired Paef n (sum_half n F nonce 0 flag) (sum_half n F nonce 1 flag) s x p.first p.second
-      → (r : List ℕ) → r ≡ p.first ⊕ s.mask → length r ≡ 16
+module _ {n : ℕ} (F : Fork) (nonce : List ℕ) (full : Bool) {flag : ℕ} (e : flag ≡ paef_body full) {s : State} {x : List ℕ} where
+  pub last_paired : {p : Pair} → Paired Paef n (sum_half n F nonce 0 flag) (sum_half n F nonce 1 flag) s x p.first p.second
+      → {r : List ℕ} → r ≡ p.first ⊕ s.mask → length r ≡ 16
       → Paired Paef n ((paef n F nonce).fin full) ((paef n F nonce).tag full) s x r p.second
   unfolding paef
-  last_paired p h r q l = record {
+  last_paired {p} h q l = record {
     first_is =
         ap (take n) q
         ∙ take_xor n p.first s.mask
@@ -59,11 +58,11 @@ module _ (n : ℕ) (F : Fork) (nonce : List ℕ) (full : Bool) (flag : ℕ) (e :
     second_long = h.second_long;
   }
 
-  pub unlast_paired : (y : List ℕ) → y ≡ x ⊕ s.mask
-      → (p : Pair) → Paired Paef n (sum_input n F nonce flag) (sum_other n F nonce flag) s y p.first p.second
+  pub unlast_paired : {y : List ℕ} → y ≡ x ⊕ s.mask
+      → {p : Pair} → Paired Paef n (sum_input n F nonce flag) (sum_other n F nonce flag) s y p.first p.second
       → Paired Paef n ((paef n F nonce).unfin full) ((paef n F nonce).untag full) s x p.first p.second
   unfolding paef
-  unlast_paired y q p h =
+  unlast_paired {y} q {p} h =
       let z : take n y ≡ take n x ⊕ take n s.mask = ap (take n) q ∙ take_xor n x s.mask in record {
         first_is = h.first_is ∙ (λ i. sum_input n F nonce (e i) (state_of Paef n s) (z i));
         second_is = h.second_is ∙ (λ i. sum_other n F nonce (e i) (state_of Paef n s) (z i));
@@ -71,50 +70,45 @@ module _ (n : ℕ) (F : Fork) (nonce : List ℕ) (full : Bool) (flag : ℕ) (e :
         second_long = h.second_long;
       }
 
-module _ (c : Cipher) (key nonce : List ℕ) (flag : ℕ) (s : State) (x t : List ℕ) (long : length nonce + 2 ≡ block_of c)
-    (told : take (length nonce + 2) t ≡ paef_tweak nonce flag s.number) where
+module _ (u : KeyAndNonce) (flag : ℕ) (s : State) (x t : List ℕ) (told : take (block_of u.cipher) t ≡ paef_tweak u.nonce flag s.number) where
   abbrev n : ℕ
-  n = block_of c
+  n = block_of u.cipher
 
   abbrev F : Fork
-  F = skinny c key
+  F = skinny u.cipher u.key
 
-  tweak : take n t ≡ paef_tweak nonce flag s.number
-  tweak = subst (λ (m : ℕ). take m t ≡ paef_tweak nonce flag s.number) long told
-
-  pub both_paired : (f : Forked) → f ≡ fork_by c key t x 2
-      → Paired Paef n (sum_half n F nonce 0 flag) (sum_half n F nonce 1 flag) s x f.half0 f.half1
+  pub both_paired : (f : Forked) (p : Pair) → fork_done f ≡ fork_by u.cipher u.key t x 2 → p ≡ record { first = f.half0; second = f.half1 }
+      → SumBoth u flag s x p
   unfolding sum_half sum_tweak wants
-  both_paired f e =
-      subst⁻¹
-      (λ (f : Forked). Paired Paef n (sum_half n F nonce 0 flag) (sum_half n F nonce 1 flag) s x f.half0 f.half1)
-      e
+  both_paired f p e g =
+      subst⁻¹ (SumBoth u flag s x) g
+      (subst⁻¹ (λ (f : ForkTold). SumBoth u flag s x (record { first = f.half0; second = f.half1 })) e
       (record {
-        first_is = half_is c key 0 t _ x tweak;
-        second_is = half_is c key 1 t _ x tweak;
-        first_long = half_long c key t 0 x;
-        second_long = half_long c key t 1 x;
-      })
+        first_is = half_is u.cipher u.key 0 t _ x told;
+        second_is = half_is u.cipher u.key 1 t _ x told;
+        first_long = half_long u.cipher u.key t 0 x;
+        second_long = half_long u.cipher u.key t 1 x;
+      }))
 
-  pub back_paired : (u : Unforked) → u ≡ unfork_by c key t x 0 2
-      → Paired Paef n (sum_input n F nonce flag) (sum_other n F nonce flag) s x u.input u.other
+  pub back_paired : (r : Unforked) (p : Pair) → unfork_done r ≡ unfork_by u.cipher u.key t x 0 2 → p ≡ record { first = r.input; second = r.other }
+      → SumBack u flag s x p
   unfolding sum_input sum_other sum_tweak wants
-  back_paired u e =
-      subst⁻¹
-      (λ (u : Unforked). Paired Paef n (sum_input n F nonce flag) (sum_other n F nonce flag) s x u.input u.other)
-      e
+  back_paired r p e g =
+      subst⁻¹ (SumBack u flag s x) g
+      (subst⁻¹ (λ (r : UnforkTold). SumBack u flag s x (record { first = r.input; second = r.other })) e
       (record {
-        first_is = input_is c key 0 t _ x tweak;
-        second_is = other_is c key 0 t _ x tweak;
-        first_long = input_long c key t 0 x;
-        second_long = other_long c key t 0 x;
-      })
+        first_is = input_is u.cipher u.key 0 t _ x told;
+        second_is = other_is u.cipher u.key 0 t _ x told;
+        first_long = input_long u.cipher u.key t 0 x;
+        second_long = other_long u.cipher u.key t 0 x;
+      }))
 
   -- half 0 of a header block, added to S
-  pub head_is : (f : Forked) (r : List ℕ) → f ≡ fork_by c key t x 0 → r ≡ s.mask ⊕ f.half0
-      → take n r ≡ head_sum n F nonce flag (state_of Paef n s) (take n x)
+  pub head_is : (f : Forked) (r : List ℕ) → fork_done f ≡ fork_by u.cipher u.key t x 0 → r ≡ s.mask ⊕ f.half0
+      → take n r ≡ head_sum n F u.nonce flag (state_of Paef n s) (take n x)
   unfolding head_sum sum_half sum_tweak wants
   head_is f r e g =
       ap (take n) g
       ∙ take_xor n s.mask f.half0
-      ∙ ap (λ (l : List ℕ). take n s.mask ⊕ l) (ap (λ (f : Forked). take n f.half0) e ∙ half_is c key 0 t _ x tweak)
+      ∙ ap (λ (l : List ℕ). take n s.mask ⊕ l)
+      (ap (λ (f : ForkTold). take n f.half0) e ∙ half_is u.cipher u.key 0 t _ x told)

@@ -3,3 +3,6 @@
 
 pub mod paef;
 pub mod saef;
+
+pub use paef::Paef;
+pub use saef::Saef;

@@ -13,10 +13,13 @@ use Rattle.ciphers.specs.declared.Cipher.TheVariants.{N64T192, N128T256}
 use Rattle.ciphers.specs.Ciphers.{width_of, block_of, counted, number_of}
 use Rattle.cells.specs.Cells.{Width, Nibble, Byte, Bytes, Block}
 use Rattle.cells.proofs.Choice.{either}
+use Rattle.forkskinny.specs.ForkSkinny.{half, input, other, other_of}
+use Rattle.std.specs.Prelude.{Result}
+use Rattle.refusals.specs.declared.Refusal.{Refusal}
 use Rattle.forkskinny.specs.declared.Forked.{Forked}
 use Rattle.forkskinny.specs.declared.Unforked.{Unforked}
-use Rattle.forkskinny.specs.ForkSkinny.{half, input, other, other_of}
-use Rattle.forkskinny.specs.Calls.{zeros, given, wants, fork_rounds, fork_refused, fork_by, fork_of, unfork_rounds, unfork_refused, unfork_by, unfork_of}
+use Rattle.forkskinny.specs.Calls.{ForkTold, UnforkTold, zeros, given, wants, fork_rounds, fork_refused, fork_told, fork_by, fork_of, unfork_rounds, unfork_refused, unfork_told, unfork_by, unfork_of}
+use Rattle.forkskinny.proofs.Told.{fork_named, unfork_named}
 use Rattle.forkskinny.proofs.Forkcipher.{input_half, other_half, half_input}
 use Rattle.forkskinny.proofs.Forkcipher.{half_behind, input_behind, other_behind, half_front, input_front, other_front}
 
@@ -56,17 +59,17 @@ other_lt (suc h) = omega arith
 module _ (c : Cipher) (key tweak : List ℕ) where
   one : (m : List ℕ) (h : ℕ) → h < 2 → fork_one c key tweak m h ≡ half c key tweak h m
   unfolding wants
-  one m zero p = ap (λ (f : Forked). f.half0) (forks c key tweak m 0 (omega arith))
-  one m (suc zero) p = ap (λ (f : Forked). f.half1) (forks c key tweak m 1 (omega arith))
+  one m zero p = ap (λ (f : ForkTold). f.half0) (forks c key tweak m 0 (omega arith))
+  one m (suc zero) p = ap (λ (f : ForkTold). f.half1) (forks c key tweak m 1 (omega arith))
   one m (suc (suc h)) p = absurd (omega arith)
 
   back : (x : List ℕ) (h : ℕ) → h < 2 → unfork_input c key tweak x h ≡ input c key tweak h x
   unfolding wants
-  back x h p = ap (λ (f : Unforked). f.input) (unforks c key tweak x h 0 p (omega arith))
+  back x h p = ap (λ (f : UnforkTold). f.input) (unforks c key tweak x h 0 p (omega arith))
 
   across : (x : List ℕ) (h : ℕ) → h < 2 → unfork_other c key tweak x h ≡ other c key tweak h x
   unfolding wants
-  across x h p = ap (λ (f : Unforked). f.other) (unforks c key tweak x h 1 p (omega arith))
+  across x h p = ap (λ (f : UnforkTold). f.other) (unforks c key tweak x h 1 p (omega arith))
 
   -- ---- conditions 1 and 2: from a half the input, its part that counts, and the other half
 
@@ -104,10 +107,10 @@ module _ (c : Cipher) (key tweak : List ℕ) where
   -- ---- these calls are taken: the number is 0
 
   pub fork_takes : (m : List ℕ) (want : ℕ) → want < 3 → (fork_of (number_of c) key tweak m want).number ≡ 0
-  fork_takes m want p = ap (λ (f : Forked). f.number) (forks c key tweak m want p)
+  fork_takes m want p = ap (λ (f : ForkTold). f.number) (forks c key tweak m want p)
 
   pub unfork_takes : (x : List ℕ) (h want : ℕ) → h < 2 → want < 3 → (unfork_of (number_of c) key tweak x h want).number ≡ 0
-  unfork_takes x h want p q = ap (λ (f : Unforked). f.number) (unforks c key tweak x h want p q)
+  unfork_takes x h want p q = ap (λ (f : UnforkTold). f.number) (unforks c key tweak x h want p q)
 
   -- ---- of tweak and block the cipher's bytes count alone, and what was not asked for comes back as zeros
 
@@ -134,16 +137,16 @@ module _ (c : Cipher) (key tweak : List ℕ) where
   pub fork_unasked : (m : List ℕ) → ((fork_of (number_of c) key tweak m 0).half1 ≡ zeros) × ((fork_of (number_of c) key tweak m 1).half0 ≡ zeros)
   unfolding wants
   fork_unasked m = (
-    ap (λ (f : Forked). f.half1) (forks c key tweak m 0 (omega arith)),
-    ap (λ (f : Forked). f.half0) (forks c key tweak m 1 (omega arith)),
+    ap (λ (f : ForkTold). f.half1) (forks c key tweak m 0 (omega arith)),
+    ap (λ (f : ForkTold). f.half0) (forks c key tweak m 1 (omega arith)),
   )
 
   pub unfork_unasked : (x : List ℕ) (h : ℕ) → h < 2
       → ((unfork_of (number_of c) key tweak x h 0).other ≡ zeros) × ((unfork_of (number_of c) key tweak x h 1).input ≡ zeros)
   unfolding wants
   unfork_unasked x h p = (
-    ap (λ (f : Unforked). f.other) (unforks c key tweak x h 0 p (omega arith)),
-    ap (λ (f : Unforked). f.input) (unforks c key tweak x h 1 p (omega arith)),
+    ap (λ (f : UnforkTold). f.other) (unforks c key tweak x h 0 p (omega arith)),
+    ap (λ (f : UnforkTold). f.input) (unforks c key tweak x h 1 p (omega arith)),
   )
 
 -- ---- every block that a call gives has zeros behind the cipher's bytes
@@ -182,8 +185,8 @@ module _ (cipher : ℕ) (key tweak block : List ℕ) (want : ℕ) where
   unfolding fork_of
   fork_no_choice p = rw (lt-ltb 2 want p)
 
-  pub same_fork : (a b : Forked) → a ≡ fork_of cipher key tweak block want → b ≡ fork_of cipher key tweak block want → a ≡ b
-  same_fork a b p q = cc
+  pub same_fork : (a b : Result Forked Refusal) → fork_told a ≡ fork_of cipher key tweak block want → fork_told b ≡ fork_of cipher key tweak block want → a ≡ b
+  same_fork a b p q = fork_named a b (p ∙ sym q)
 
 module _ (cipher : ℕ) (key tweak block : List ℕ) (from want : ℕ) where
   pub unfork_no_cipher : (cipher ≡ 1 → ⊥) → (cipher ≡ 2 → ⊥) → unfork_of cipher key tweak block from want ≡ unfork_refused
@@ -198,6 +201,6 @@ module _ (cipher : ℕ) (key tweak block : List ℕ) (from want : ℕ) where
   unfolding unfork_of
   unfork_no_half p = rw (lt-ltb 1 from p)
 
-  pub same_unfork : (a b : Unforked)
-      → a ≡ unfork_of cipher key tweak block from want → b ≡ unfork_of cipher key tweak block from want → a ≡ b
-  same_unfork a b p q = cc
+  pub same_unfork : (a b : Result Unforked Refusal)
+      → unfork_told a ≡ unfork_of cipher key tweak block from want → unfork_told b ≡ unfork_of cipher key tweak block from want → a ≡ b
+  same_unfork a b p q = unfork_named a b (p ∙ sym q)

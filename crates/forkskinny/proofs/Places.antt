@@ -1,5 +1,4 @@
--- The rounds that the branches take are laid out and no more than the constants; what is so at 0 and at every other number.
--- Assumes nothing.
+-- The rounds that the branches take are laid out and no more than the constants. Assumes nothing.
 use mathlib.Core.Path.{◌≡◌, refl, sym}
 use mathlib.Core.Bool.{Bool, true, false, true≢false, cond}
 use Prim.Native.Nat.{ℕ, zero, suc, ◌+◌, ◌≤◌}
@@ -11,11 +10,6 @@ use Rattle.forkskinny.specs.declared.Branch.{Branch}
 use Rattle.forkskinny.specs.declared.Branch.TheVariants.{Near, Far}
 use Rattle.forkskinny.specs.ForkSkinny.{start_of, side_of}
 use Rattle.forkskinny.specs.Reach.{is_far, far_if, takes_far, reach_of}
-
--- a function's value past 0
-pub past_zero : {A : Type 0} (f : ℕ → A) (a : A) → ((k : ℕ) → a ≡ f (suc k)) → (h : ℕ) → (h ≡ 0 → ⊥) → a ≡ f h
-past_zero f a p zero n = absurd (n refl)
-past_zero f a p (suc k) n = p k
 
 pub branch_fit : (c : Cipher) (b : Branch) → start_of c b + branch_of c ≤ 87
 branch_fit c Near = omega (arith, fit c)

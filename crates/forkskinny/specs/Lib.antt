@@ -1,3 +1,5 @@
 pub mod Calls
 pub mod ForkSkinny
+pub mod Keyed
 pub mod Reach
+pub mod Wanted

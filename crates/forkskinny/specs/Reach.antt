@@ -1,7 +1,9 @@
 -- How far a call lays the round keys out: no further than the branches that it takes. Assumes nothing.
-use Rattle.std.specs.Prelude.{ℕ, ◌+◌, Bool, true, false, cond}
+use Rattle.std.specs.Prelude.{ℕ, ◌+◌, Bool, true, false, cond, List}
+use Rattle.schedule.specs.declared.Tweakey.{Tweakey}
+use Rattle.schedule.specs.Schedule.{RoundKeys}
 use Rattle.ciphers.specs.declared.Cipher.{Cipher}
-use Rattle.ciphers.specs.Ciphers.{branch_of}
+use Rattle.ciphers.specs.Ciphers.{width_of, words_of, branch_of}
 use Rattle.forkskinny.specs.declared.Branch.{Branch}
 use Rattle.forkskinny.specs.declared.Branch.TheVariants.{Near, Far}
 use Rattle.forkskinny.specs.ForkSkinny.{side_of, start_of, other_of}
@@ -30,3 +32,7 @@ fork_reach c want = reach_of c (takes_far (wants 0 want) 0 (wants 1 want) 1)
 
 abbrev pub unfork_reach : Cipher → (from want : ℕ) → ℕ
 unfork_reach c from want = reach_of c (takes_far true from (wants 1 want) (other_of from))
+
+-- ---- keys that are laid: of a cipher's first m rounds, from the tweakey t
+abbrev pub LaidFor : Cipher → (m : ℕ) → Tweakey → List (List ℕ) → Type 0
+LaidFor c m t keys = RoundKeys (width_of c) (words_of c) m t keys

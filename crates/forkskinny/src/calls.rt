@@ -1,33 +1,43 @@
 // The block calls, under the cipher that a number names: by key, and with a prepared one. Refused with 1 (no such cipher, half or choice), and
-// then with 2 (a prepared key that is not one of this cipher's). Where a prepared key's share is lent, `own` is the number of the cipher that it
-// says it is for, and `moving` its moving part.
+// then with 2 (a prepared key that is not one of this cipher's). They take numbers, as `fork_of` and `unfork_of` say what every number is answered.
 ghost use Rattle.std.specs.Prelude.{◌≡◌};
-ghost use Rattle.prepared.specs.Prepared.{record_of};
-ghost use Rattle.forkskinny.specs.Calls.{fork_refused_with, fork_by, fork_of, fork_under, fork_with, unfork_refused_with, unfork_by, unfork_of, unfork_under, unfork_with};
+ghost use Rattle.prepared.specs.Prepared.{key_in, Made};
+ghost use Rattle.forkskinny.specs.Calls.{judged, fork_by, fork_done, fork_told, fork_of, fork_with, unfork_by, unfork_done, unfork_told, unfork_of, unfork_with};
+ghost use Rattle.forkskinny.specs.Wanted.{want_of, half_of};
 
-use crate::{Forked, Unforked, fork_by, unfork_by};
+use crate::{Forked, Half, Keyed, Unforked, Want};
 use ciphers::Cipher;
 use prepared::Prepared;
+use refusals::Refusal;
+
+// The share of a key, to work with it. (The key is lent, so that the checker knows its bytes for bytes.)
+fn share_made(c: Cipher, key: &[u8; 16]) -> [u8; 784]
+    ensures made { Made c result }
+    ensures key { key_in c result ≡ key.now }
+{
+    prepared::share_of(c, *key)
+}
+
+// The cipher that a number names, where it admits a prepared key.
+fn judged(cipher: u32, key: &Prepared) -> Result<Cipher, Refusal>
+    ensures { result ≡ judged cipher key.now }
+{
+    let c = Cipher::try_from(cipher)?;
+    if !key.is_admitted(c) {
+        return Err(Refusal::Key);
+    }
+    Ok(c)
+}
 
 // ---- forward
 
-fn fork_refused(number: u32) -> Forked
-    ensures { result ≡ fork_refused_with number }
+// Under a key whose share is made, or judged. (In a frame of its own, so that its room takes no stack while that is done.)
+#[inline(never)]
+fn fork_keyed(c: Cipher, share: &[u8; 784], tweak: [u8; 16], block: [u8; 16], want: Want) -> Forked
+    requires { Made c share.now }
+    ensures { fork_done result ≡ fork_by c (key_in c share.now) tweak block (want_of want) }
 {
-    Forked {
-        number,
-        half0: [0u8; 16],
-        half1: [0u8; 16],
-        rounds: 0,
-    }
-}
-
-fn fork_of_key(c: Cipher, key: [u8; 16], tweak: [u8; 16], block: [u8; 16], want: u32) -> Forked
-    ensures { result ≡ fork_by c key tweak block want }
-{
-    ciphers::bytes_known(&key);
-    let share = prepared::share_of(c, key);
-    fork_by(c, &share, tweak, block, want)
+    Keyed::new(c, share).fork(tweak, block, want)
 }
 
 // Half 0 (want 0), half 1 (want 1) or both (want 2) of a block.
@@ -37,97 +47,46 @@ pub fn fork_by_key(
     tweak: [u8; 16],
     block: [u8; 16],
     want: u32,
-) -> Forked
-    ensures { result ≡ fork_of cipher key tweak block want }
+) -> Result<Forked, Refusal>
+    ensures { fork_told result ≡ fork_of cipher key tweak block want }
 {
-    if 2 < want {
-        return fork_refused(1);
-    }
-    if cipher == 1 {
-        return fork_of_key(Cipher::N64T192, key, tweak, block, want);
-    }
-    if cipher == 2 {
-        return fork_of_key(Cipher::N128T256, key, tweak, block, want);
-    }
-    fork_refused(1)
+    let want = Want::try_from(want)?;
+    let c = Cipher::try_from(cipher)?;
+    let share = share_made(c, &key);
+    Ok(fork_keyed(c, &share, tweak, block, want))
 }
 
-fn fork_under(
-    c: Cipher,
-    own: u32,
-    share: &[u8; 784],
-    moving: [u8; 16],
-    tweak: [u8; 16],
-    block: [u8; 16],
-    want: u32,
-) -> Forked
-    ensures { result ≡ fork_under c (record_of own share.now moving) tweak block want }
-{
-    if prepared::judge(c, own, share, moving) {
-        return fork_by(c, share, tweak, block, want);
-    }
-    fork_refused(2)
-}
-
-// The same with a prepared key, whose share is lent.
-pub fn fork_lent(
+// The same with a prepared key.
+pub fn fork(
     cipher: u32,
-    own: u32,
-    share: &[u8; 784],
-    moving: [u8; 16],
+    key: &Prepared,
     tweak: [u8; 16],
     block: [u8; 16],
     want: u32,
-) -> Forked
-    ensures { result ≡ fork_with cipher (record_of own share.now moving) tweak block want }
+) -> Result<Forked, Refusal>
+    ensures { fork_told result ≡ fork_with cipher key.now tweak block want }
 {
-    if 2 < want {
-        return fork_refused(1);
-    }
-    if cipher == 1 {
-        return fork_under(Cipher::N64T192, own, share, moving, tweak, block, want);
-    }
-    if cipher == 2 {
-        return fork_under(Cipher::N128T256, own, share, moving, tweak, block, want);
-    }
-    fork_refused(1)
-}
-
-// The same, the record given whole.
-pub fn fork(cipher: u32, key: Prepared, tweak: [u8; 16], block: [u8; 16], want: u32) -> Forked
-    ensures { result ≡ fork_with cipher key tweak block want }
-{
-    let share = key.share;
-    let moving = key.tweak;
-    fork_lent(cipher, key.cipher, &share, moving, tweak, block, want)
+    let want = Want::try_from(want)?;
+    let c = judged(cipher, key)?;
+    Ok(fork_keyed(c, &key.share, tweak, block, want))
 }
 
 // ---- back
 
-fn unfork_refused(number: u32) -> Unforked
-    ensures { result ≡ unfork_refused_with number }
-{
-    Unforked {
-        number,
-        input: [0u8; 16],
-        other: [0u8; 16],
-        rounds: 0,
-    }
-}
-
-fn unfork_of_key(
+// Under a key whose share is made, or judged. (In a frame of its own, too.)
+#[inline(never)]
+fn unfork_keyed(
     c: Cipher,
-    key: [u8; 16],
+    share: &[u8; 784],
     tweak: [u8; 16],
     block: [u8; 16],
-    from: u32,
-    want: u32,
+    from: Half,
+    want: Want,
 ) -> Unforked
-    ensures { result ≡ unfork_by c key tweak block from want }
+    requires { Made c share.now }
+    ensures { unfork_done result ≡ unfork_by c (key_in c share.now) tweak block (half_of from) (want_of want) }
 {
-    ciphers::bytes_known(&key);
-    let share = prepared::share_of(c, key);
-    unfork_by(c, &share, tweak, block, from, want)
+    Keyed::new(c, share).unfork(tweak, block, from, want)
 }
 
 // From a half (from 0 or 1): the input block (want 0), the other half (want 1) or both (want 2).
@@ -138,100 +97,29 @@ pub fn unfork_by_key(
     block: [u8; 16],
     from: u32,
     want: u32,
-) -> Unforked
-    ensures { result ≡ unfork_of cipher key tweak block from want }
+) -> Result<Unforked, Refusal>
+    ensures { unfork_told result ≡ unfork_of cipher key tweak block from want }
 {
-    if 1 < from {
-        return unfork_refused(1);
-    }
-    if 2 < want {
-        return unfork_refused(1);
-    }
-    if cipher == 1 {
-        return unfork_of_key(Cipher::N64T192, key, tweak, block, from, want);
-    }
-    if cipher == 2 {
-        return unfork_of_key(Cipher::N128T256, key, tweak, block, from, want);
-    }
-    unfork_refused(1)
+    let from = Half::try_from(from)?;
+    let want = Want::try_from(want)?;
+    let c = Cipher::try_from(cipher)?;
+    let share = share_made(c, &key);
+    Ok(unfork_keyed(c, &share, tweak, block, from, want))
 }
 
-fn unfork_under(
-    c: Cipher,
-    own: u32,
-    share: &[u8; 784],
-    moving: [u8; 16],
-    tweak: [u8; 16],
-    block: [u8; 16],
-    from: u32,
-    want: u32,
-) -> Unforked
-    ensures { result ≡ unfork_under c (record_of own share.now moving) tweak block from want }
-{
-    if prepared::judge(c, own, share, moving) {
-        return unfork_by(c, share, tweak, block, from, want);
-    }
-    unfork_refused(2)
-}
-
-// The same with a prepared key, whose share is lent.
-pub fn unfork_lent(
-    cipher: u32,
-    own: u32,
-    share: &[u8; 784],
-    moving: [u8; 16],
-    tweak: [u8; 16],
-    block: [u8; 16],
-    from: u32,
-    want: u32,
-) -> Unforked
-    ensures { result ≡ unfork_with cipher (record_of own share.now moving) tweak block from want }
-{
-    if 1 < from {
-        return unfork_refused(1);
-    }
-    if 2 < want {
-        return unfork_refused(1);
-    }
-    if cipher == 1 {
-        return unfork_under(
-            Cipher::N64T192,
-            own,
-            share,
-            moving,
-            tweak,
-            block,
-            from,
-            want,
-        );
-    }
-    if cipher == 2 {
-        return unfork_under(
-            Cipher::N128T256,
-            own,
-            share,
-            moving,
-            tweak,
-            block,
-            from,
-            want,
-        );
-    }
-    unfork_refused(1)
-}
-
-// The same, the record given whole.
+// The same with a prepared key.
 pub fn unfork(
     cipher: u32,
-    key: Prepared,
+    key: &Prepared,
     tweak: [u8; 16],
     block: [u8; 16],
     from: u32,
     want: u32,
-) -> Unforked
-    ensures { result ≡ unfork_with cipher key tweak block from want }
+) -> Result<Unforked, Refusal>
+    ensures { unfork_told result ≡ unfork_with cipher key.now tweak block from want }
 {
-    let share = key.share;
-    let moving = key.tweak;
-    unfork_lent(cipher, key.cipher, &share, moving, tweak, block, from, want)
+    let from = Half::try_from(from)?;
+    let want = Want::try_from(want)?;
+    let c = judged(cipher, key)?;
+    Ok(unfork_keyed(c, &key.share, tweak, block, from, want))
 }

@@ -10,7 +10,7 @@ use lib.ListN.{length, get_or, length-drop}
 use borrow.Author.Tests.{eqb-false}
 use Rattle.ciphers.proofs.Laws.{block_most}
 use Rattle.schemes.specs.declared.Scheme.{Scheme}
-use Rattle.schemes.specs.declared.Named.TheVariants.{Known}
+use Rattle.std.specs.Prelude.{Some}
 use Rattle.schemes.specs.Schemes.{scheme_of}
 use Rattle.schemes.specs.Checks.{body_in, more_in}
 use Rattle.schemes.proofs.Table.{each_named}
@@ -28,7 +28,7 @@ pub record Wide (s : Scheme) : Type 0 where
   pub header : 16384 ≤ s.header
   pub body : 16384 ≤ s.body
 
-pub wide : (number : ℕ) (s : Scheme) → scheme_of number ≡ Known s → Wide s
+pub wide : (number : ℕ) (s : Scheme) → scheme_of number ≡ Some s → Wide s
 wide =
     each_named Wide (
       record { key = refl; header = omega arith; body = omega arith },

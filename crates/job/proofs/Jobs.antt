@@ -12,6 +12,8 @@ use Rattle.schemes.specs.declared.Scheme.{Scheme}
 use Rattle.schemes.specs.Schemes.{scheme_of}
 use Rattle.schemes.specs.Checks.{blank, check_of}
 use Rattle.views.specs.View.{view_of}
+use Rattle.std.specs.Prelude.{Result}
+use Rattle.refusals.specs.declared.Refusal.{Refusal}
 use Rattle.sealing.specs.declared.Answer.{Answer}
 use Rattle.sealing.specs.Demands.{Admitted, SealsTo}
 use Rattle.sealing.specs.Calls.{Told, told, refused, sealed, seal_rounds, open_rounds, seal_under, seal_of, open_of}
@@ -107,7 +109,7 @@ documents_line room = ap line_for (documents_job room)
 
 -- ---- two results that a contract allows are equal
 
-pub same_run : (job room : List ℕ) (a b : Answer) (r q : List ℕ) → told a r ≡ job_of job room → told b q ≡ job_of job room → (a ≡ b) × (r ≡ q)
+pub same_run : (job room : List ℕ) (a b : Result Answer Refusal) (r q : List ℕ) → told a r ≡ job_of job room → told b q ≡ job_of job room → (a ≡ b) × (r ≡ q)
 same_run job room a b r q = told_same a b r q (job_of job room)
 
 pub same_answer : (job room text : List ℕ) (k l : ℕ) (t u r q : List ℕ)

@@ -1,5 +1,4 @@
 pub mod Wholes
-pub mod Along
 pub mod Soundness
 pub mod Reading
 pub mod Writing

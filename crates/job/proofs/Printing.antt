@@ -1,5 +1,5 @@
 -- The part of the room that is printed, and the lines of the answers. Assumes nothing.
-use mathlib.Core.Path.{◌≡◌, ap, ◌∙◌}
+use mathlib.Core.Path.{◌≡◌}
 use mathlib.Core.Bool.{not}
 use mathlib.Core.List.{List, [], ◌++◌}
 use Prim.Native.Nat.{ℕ, ◌≤◌}
@@ -9,11 +9,10 @@ use lib.Dec.{eqb, ltb}
 use lib.ListN.{length, take, drop, length-take, length-append}
 use lib.Seq.{take_at}
 use Rattle.views.specs.View.{view_of}
-use Rattle.sealing.specs.declared.Answer.{Answer}
-use Rattle.sealing.specs.Calls.{Told, told, done}
+use Rattle.sealing.specs.Calls.{Told, done}
 use Rattle.cells.proofs.Choice.{either}
 use Rattle.lines.specs.Line.{line_of}
-use Rattle.job.specs.Job.{job_of, line_for, printed}
+use Rattle.job.specs.Job.{line_for}
 
 -- a part is no longer than its room
 pub view_most : (number l : ℕ) (room : List ℕ) → length (view_of number l room) ≤ length room
@@ -22,12 +21,6 @@ view_most number l room =
     let Most : List ℕ → Type 0 = λ v. length v ≤ length room in
     either Most (not (eqb number 0)) [] _ (omega arith)
     (either Most (ltb (length room) l) [] (take l room) (omega arith) (simp length-take (omega arith)))
-
--- the line of the part that was viewed is the line of the job
-pub printed_so
-    : (job room : List ℕ) {a : Answer} {left part : List ℕ} → told a left ≡ job_of job room → part ≡ view_of a.number a.length left
-    → line_of a.number a.length part ≡ printed job room
-printed_so job room {a} e f = ap (λ (v : List ℕ). line_of a.number a.length v) f ∙ ap line_for e
 
 -- ---- the line of each way in which a call answers
 

@@ -1,84 +1,85 @@
 -- The sections of a sound job, as the code takes them one behind the other, and what the job is answered by. Assumes nothing.
 use mathlib.Core.Path.{◌≡◌, sym, ap, ◌∙◌}
-use mathlib.Core.Bool.{Bool, true, false}
+use mathlib.Core.Bool.{Bool, false}
 use mathlib.Core.List.{List}
-use Prim.Native.Nat.{ℕ, ◌-◌, ◌≤◌}
-use native.Mathlib.Omega.{arith}
+use Prim.Native.Nat.{ℕ, suc, ◌-◌, ◌≤◌}
+use lib.Dec.{eqb}
 use lib.ListN.{length, take, drop, get_or}
-use Rattle.sealing.specs.Calls.{refused, seal_of, open_of}
+use Rattle.std.specs.Prelude.{Option, None, Some, MatchOption, Result, Err, IfErr}
+use Rattle.std.specs.Result.{IsErrAnd}
+use Rattle.std.specs.Option.{ok_or}
+use Rattle.std.specs.Borrow.{Bor}
+use Rattle.std.proofs.lemmas.Option.{MatchOption-at_none, MatchOption-at_some}
+use Rattle.std.proofs.lemmas.Result.{err_from_is_err_and}
+use Rattle.refusals.specs.declared.Refusal.{Refusal}
+use Rattle.refusals.specs.declared.Refusal.TheVariants.{Job}
+use Rattle.sealing.specs.Calls.{refused}
 use Rattle.blocks.proofs.Parts.{part_rest}
-use Rattle.job.specs.Sections.{whole_at, section_of, behind_of}
-use Rattle.job.specs.Job.{is_sound, job_of, directed, from_nonce, from_header, from_body}
-use Rattle.job.proofs.Soundness.{sound, sound_front}
+use Rattle.job.specs.declared.Direction.{Direction}
+use Rattle.job.specs.Sections.{whole_at, section_of, behind_of, sections_of, Split}
+use Rattle.job.specs.Job.{is_sound, job_of, directed, byte_of, Reads, from_key}
+use Rattle.job.proofs.Wholes.{cut, more}
+use Rattle.job.proofs.Soundness.{as_sections}
 
-pub unsound : (job room : List ℕ) {r : Bool} → r ≡ is_sound job → r ≡ false → refused 9 room ≡ job_of job room
+-- ---- the answer
+
+pub unsound : (job room : List ℕ) → is_sound job ≡ false → refused 9 room ≡ job_of job room
 unfolding job_of
-unsound job room {r} e h = rw (sym e ∙ h)
+unsound job room e = rw e
 
--- ---- the sections from each of the four on, and that each is whole
+pub answered : {job : List ℕ} {scheme d : ℕ} {key nonce header body : List ℕ} → Reads job scheme d key nonce header body
+    → {way : ℕ} → d ≡ way → (room : List ℕ) → directed way scheme key nonce header body room ≡ job_of job room
+unfolding job_of
+answered w e room =
+    rw w.sound
+    (λ i. directed ((sym e ∙ w.direction_is) i) (w.scheme_is i) (w.key_is i) (w.nonce_is i) (w.header_is i) (w.body_is i) room)
 
-module _ (job : List ℕ) where
-  abbrev part : List ℕ
-  part = take (length job - 2) (drop 2 job)
+-- ---- the sections, as `split` hands them out
 
-  module _ {a : List ℕ} (at_nonce : a ≡ behind_of part) where
-    nonce_is : a ≡ from_nonce job
-    nonce_is = at_nonce ∙ ap behind_of (part_rest 2 job)
+-- how far the sections are read: the rest stands at `at`, and `good` says whether k whole ones are there and nothing behind them
+pub record Reached (k : ℕ) (good : Bool) (at rest : List ℕ) : Type 0 where
+  pub is : rest ≡ at
+  pub asks : good ≡ sections_of k at
 
-    module _ {b : List ℕ} (at_header : b ≡ behind_of a) where
-      header_is : b ≡ from_header job
-      header_is = at_header ∙ ap behind_of nonce_is
+-- behind the direction
+pub start : (job : List ℕ) → length job ≤ 16384 → (d : Direction) → get_or job 1 0 ≡ byte_of d
+    → Reached 4 (is_sound job) (from_key job) (take (length job - 2) (drop 2 job))
+start job l d way = record { is = part_rest 2 job; asks = as_sections job l d way }
 
-      module _ {c : List ℕ} (at_body : c ≡ behind_of b) where
-        body_is : c ≡ from_body job
-        body_is = at_body ∙ ap behind_of header_is
+module _
+    {k : ℕ}
+    {good : Bool}
+    {at rest : List ℕ}
+    (w : Reached (suc k) good at rest)
+    {o : Option (Bor (List ℕ) × Bor (List ℕ))}
+    (halves : MatchOption o (whole_at rest ≡ false) (λ parts. Split rest parts.0.now parts.1.now))
+  where
+    pub stuck : o ≡ None → good ≡ false
+    stuck e = w.asks ∙ cut k at (ap whole_at (sym w.is) ∙ MatchOption-at_none _ (λ parts. Split rest parts.0.now parts.1.now) e halves)
 
-  module _ {r : Bool} (e : r ≡ is_sound job) (f : r ≡ true) where
-    yes : is_sound job ≡ true
-    yes = sym e ∙ f
+    module _ {front behind : Bor (List ℕ)} (e : o ≡ Some (front, behind)) where
+      parted : Split rest front.now behind.now
+      parted = MatchOption-at_some (whole_at rest ≡ false) (λ parts. Split rest parts.0.now parts.1.now) (front, behind) e halves
 
-    pub key_whole : whole_at part ≡ true
-    key_whole = ap whole_at (part_rest 2 job) ∙ (sound job yes).key
+      pub section_is : front.now ≡ section_of at
+      section_is = parted.front_is ∙ ap section_of w.is
 
-    pub nonce_whole : {a : List ℕ} → a ≡ behind_of part → whole_at a ≡ true
-    nonce_whole p = ap whole_at (nonce_is p) ∙ (sound job yes).nonce
+      pub along : Reached k good (behind_of at) behind.now
+      along = record {
+        is = parted.rest_is ∙ ap behind_of w.is;
+        asks = w.asks ∙ more k at (ap whole_at (sym w.is) ∙ parted.whole);
+      }
 
-    pub header_whole : {a b : List ℕ} → a ≡ behind_of part → b ≡ behind_of a → whole_at b ≡ true
-    header_whole p q = ap whole_at (header_is p q) ∙ (sound job yes).header
+-- behind the last one
+pub ended : {good : Bool} {at rest : List ℕ} → Reached 0 good at rest → {r b : Bool} → r ≡ eqb (length rest) 0 → r ≡ b → good ≡ b
+unfolding sections_of
+ended w e f = w.asks ∙ ap (λ (s : List ℕ). eqb (length s) 0) (sym w.is) ∙ sym e ∙ f
 
-    pub body_whole : {a b c : List ℕ} → a ≡ behind_of part → b ≡ behind_of a → c ≡ behind_of b → whole_at c ≡ true
-    body_whole p q t = ap whole_at (body_is p q t) ∙ (sound job yes).body
-
-    pub front : 2 ≤ length job
-    front = sound_front job (sound job yes)
-
-    -- ---- the answer
-
-    module _
-        {a b c key nonce header body : List ℕ}
-        (p : a ≡ behind_of part)
-        (q : b ≡ behind_of a)
-        (t : c ≡ behind_of b)
-        (k : key ≡ section_of part)
-        (n : nonce ≡ section_of a)
-        (h : header ≡ section_of b)
-        (m : body ≡ section_of c)
-        (room : List ℕ)
-      where
-        answered : (d : ℕ) → get_or job 1 0 ≡ d → directed d (get_or job 0 0) key nonce header body room ≡ job_of job room
-        unfolding job_of
-        answered d z =
-            rw (
-              yes,
-              z,
-              k ∙ ap section_of (part_rest 2 job),
-              n ∙ ap section_of (nonce_is p),
-              h ∙ ap section_of (header_is p q),
-              m ∙ ap section_of (body_is p q t),
-            )
-
-        pub sealing : get_or job 1 0 ≡ 0 → seal_of (get_or job 0 0) key nonce header body room ≡ job_of job room
-        sealing z = answered 0 z
-
-        pub opening : (get_or job 1 0 ≡ 0 → ⊥) → open_of (get_or job 0 0) key nonce header body room ≡ job_of job room
-        opening z = answered 1 (omega (arith, (sound job yes).direction, z))
+-- what is returned where there is no section
+pub no_section : {T U : Type 0} (job : List ℕ) (r : Result T Refusal) {o : Option U} {x : Refusal} → IsErrAnd r (λ y. y ≡ x)
+    → Err x ≡ ok_or o Job → o ≡ None → is_sound job ≡ false
+    → IfErr r (λ refusal. (refusal ≡ Job) × (is_sound job ≡ false))
+no_section job r h told none unsound =
+    let (y, is, same) = err_from_is_err_and r h in
+    let e : Err _ ≡ Err Job = told ∙ ap (λ o. ok_or o Job) none in
+    rw is (cc, unsound)

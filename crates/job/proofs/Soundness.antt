@@ -2,18 +2,19 @@
 --     sound       what it has: two bytes at its front, a direction, four whole sections and nothing behind
 --     too_long, no_front, no_direction, as_sections   what the code tests
 -- Assumes nothing.
-use mathlib.Core.Path.{◌≡◌, refl, sym, ap, ◌∙◌}
+use mathlib.Core.Path.{◌≡◌, refl, ap, ◌∙◌}
 use mathlib.Core.Bool.{Bool, true, false, cond, false≢true}
 use mathlib.Core.List.{List, []}
-use Prim.Native.Nat.{ℕ, ◌-◌, ◌≤◌, ◌<◌}
+use Prim.Native.Nat.{ℕ, ◌≤◌, ◌<◌}
 use native.Mathlib.Omega.{arith}
 use borrow.Author.Tests.{ltb-false, lt-ltb, le-ltb, eqb-true}
 use lib.Dec.{ltb}
-use lib.ListN.{length, take, drop, get_or, length-drop, drop_of_length-le}
+use lib.ListN.{length, get_or, length-drop, drop_of_length-le}
 use Rattle.cells.proofs.Choice.{either}
-use Rattle.blocks.proofs.Parts.{part_rest}
 use Rattle.job.specs.Sections.{whole_at, behind_of, sections_of}
-use Rattle.job.specs.Job.{is_sound, from_key, from_nonce, from_header, from_body}
+use Rattle.job.specs.declared.Direction.{Direction}
+use Rattle.job.specs.declared.Direction.TheVariants.{Seal, Open}
+use Rattle.job.specs.Job.{is_sound, byte_of, from_key, from_nonce, from_header, from_body}
 use Rattle.job.proofs.Wholes.{whole_long, whole_short, cut, first}
 
 pub record Sound (job : List ℕ) : Type 0 where
@@ -55,21 +56,27 @@ sound_front job w = omega (arith, whole_long (from_key job) w.key, length-drop 2
 -- ---- what the code tests, in its order
 
 nothing : (s : List ℕ) → s ≡ [] → sections_of 4 s ≡ false
-nothing s e = ap (sections_of 4) e ∙ cut 3 [] (sym (whole_short [] (omega arith)))
+nothing s e = ap (sections_of 4) e ∙ cut 3 [] (whole_short [] (omega arith))
+
+byte_most : (d : Direction) → byte_of d ≤ 1
+byte_most Seal = omega arith
+byte_most Open = omega arith
 
 module _ (job : List ℕ) where
-  pub too_long : 16384 < length job → false ≡ is_sound job
+  pub too_long : 16384 < length job → is_sound job ≡ false
   unfolding is_sound
   too_long h = rw (lt-ltb 16384 (length job) h)
 
-  pub no_front : length job ≤ 16384 → length job < 2 → false ≡ is_sound job
+  pub no_front : length job ≤ 16384 → length job < 2 → is_sound job ≡ false
   unfolding is_sound sections_of
-  no_front l h = rw (le-ltb 16384 (length job) l) (either (λ (b : Bool). false ≡ b) (ltb 1 (get_or job 1 0)) false (sections_of 4 (from_key job)) refl (sym (nothing (from_key job) (drop_of_length-le job {i = 2} (omega arith)))))
+  no_front l h = rw (le-ltb 16384 (length job) l) (either (λ (b : Bool). b ≡ false) (ltb 1 (get_or job 1 0)) false (sections_of 4 (from_key job)) refl (nothing (from_key job) (drop_of_length-le job {i = 2} (omega arith))))
 
-  pub no_direction : length job ≤ 16384 → 1 < get_or job 1 0 → false ≡ is_sound job
+  pub no_direction : length job ≤ 16384 → 1 < get_or job 1 0 → is_sound job ≡ false
   unfolding is_sound
   no_direction l h = rw (le-ltb 16384 (length job) l, lt-ltb 1 (get_or job 1 0) h)
 
-  pub as_sections : {r : Bool} → length job ≤ 16384 → get_or job 1 0 ≤ 1 → r ≡ sections_of 4 (take (length job - 2) (drop 2 job)) → r ≡ is_sound job
+  pub as_sections : length job ≤ 16384 → (d : Direction) → get_or job 1 0 ≡ byte_of d → is_sound job ≡ sections_of 4 (from_key job)
   unfolding is_sound
-  as_sections l h e = e ∙ ap (sections_of 4) (part_rest 2 job) ∙ rw (le-ltb 16384 (length job) l, le-ltb 1 (get_or job 1 0) h)
+  as_sections l d way =
+      let known : get_or job 1 0 ≤ 1 = omega (arith, way, byte_most d) in
+      rw (le-ltb 16384 (length job) l, le-ltb 1 (get_or job 1 0) known)

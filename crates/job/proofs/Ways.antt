@@ -44,7 +44,7 @@ no_output job room =
 module _ (job room : List ℕ) where
   judged : (b : Bool) → is_sound job ≡ b → (is_sound job ≡ true → ⊥) → job_of job room ≡ refused 9 room
   judged true e h = absurd (h e)
-  judged false e h = sym (unsound job room (sym e) refl)
+  judged false e h = sym (unsound job room e)
 
   pub no_job : (is_sound job ≡ true → ⊥) → job_of job room ≡ refused 9 room
   no_job = judged (is_sound job) refl

@@ -1,20 +1,21 @@
 -- Whole sections.
 --     whole_long     a whole section is its count and two bytes long, or longer
---     whole_short, whole_count   what the code tests
---     section_part, behind_part  what the code hands out
+--     whole_short    nothing is whole that is too short for a count
+--     split_so       what the code tests and hands out
 --     cut, more, first   sections in a row, by the first of them
 -- Assumes nothing.
-use mathlib.Core.Path.{◌≡◌, refl, sym, ap, ◌∙◌}
+use mathlib.Core.Path.{◌≡◌, refl, ap, ◌∙◌}
 use mathlib.Core.Bool.{Bool, true, false, cond, false≢true}
-use mathlib.Core.List.{List}
-use Prim.Native.Nat.{ℕ, suc, ◌+◌, ◌-◌, ◌≤◌, ◌<◌}
-use native.Mathlib.Nat.{add-sub_cancel_left}
+use mathlib.Core.List.{List, [], ◌∷◌}
+use Prim.Native.Nat.{ℕ, suc, ◌+◌, ◌≤◌, ◌<◌}
 use native.Mathlib.Omega.{arith}
-use borrow.Author.Tests.{leb-true, lt-leb}
-use lib.Dec.{leb}
-use lib.ListN.{length, take, drop}
-use Rattle.blocks.proofs.Parts.{part_rest}
-use Rattle.job.specs.Sections.{count_of, whole_at, section_of, behind_of, sections_of}
+use borrow.Author.Tests.{leb-true, lt-leb, le-leb}
+use lib.ListN.{length, take, drop, length-drop}
+use lib.Seq.{drop-drop}
+use Rattle.std.specs.Prelude.{Option, None, Some, MatchOption}
+use Rattle.std.specs.Borrow.{Bor}
+use Rattle.std.specs.List.{IsSplitAt}
+use Rattle.job.specs.Sections.{count_of, whole_at, section_of, behind_of, sections_of, Split}
 
 -- ---- one section
 
@@ -22,21 +23,32 @@ pub whole_long : (s : List ℕ) → whole_at s ≡ true → 2 + count_of s ≤ l
 unfolding whole_at
 whole_long s h = leb-true (2 + count_of s) (length s) h
 
-pub whole_short : (s : List ℕ) → length s < 2 → false ≡ whole_at s
+pub whole_short : (s : List ℕ) → length s < 2 → whole_at s ≡ false
 unfolding whole_at
-whole_short s h = sym (lt-leb (2 + count_of s) (length s) (omega arith))
+whole_short s h = lt-leb (2 + count_of s) (length s) (omega arith)
 
-pub whole_count : (s : List ℕ) {r : ℕ} → r ≡ count_of s → leb (2 + r) (length s) ≡ whole_at s
-unfolding whole_at
-whole_count s e = ap (λ (k : ℕ). leb (2 + k) (length s)) e
+-- the count that is read at the front
+count_so : (s : List ℕ) → 2 ≤ length s → count_of (take 2 s) ≡ count_of s
+count_so [] h = absurd (omega arith)
+count_so (x ∷ []) h = absurd (omega arith)
+count_so (x ∷ y ∷ t) h = refl
 
-pub section_part : (s : List ℕ) {r : ℕ} → r ≡ count_of s → take (2 + r - 2) (drop 2 s) ≡ section_of s
-unfolding section_of
-section_part s {r} e = ap (λ (k : ℕ). take k (drop 2 s)) (add-sub_cancel_left 2 r ∙ e)
+module _ (s : List ℕ) {front rest : List ℕ} {n : ℕ} (two : 2 ≤ length s) (is_front : front ≡ take 2 s) (is_rest : rest ≡ drop 2 s) (read : n ≡ count_of front) where
+  counted : n ≡ count_of s
+  counted = read ∙ ap count_of is_front ∙ count_so s two
 
-pub behind_part : (s : List ℕ) {r : ℕ} → r ≡ count_of s → take (length s - (2 + r)) (drop (2 + r) s) ≡ behind_of s
-unfolding behind_of
-behind_part s {r} e = part_rest (2 + r) s ∙ ap (λ (k : ℕ). drop (2 + k) s) e
+  pub split_so : (o : Option (Bor (List ℕ) × Bor (List ℕ)))
+      → MatchOption o (length rest < n) (λ p. IsSplitAt rest n p.0.now p.1.now)
+      → MatchOption o (whole_at s ≡ false) (λ p. Split s p.0.now p.1.now)
+  unfolding whole_at section_of behind_of
+  split_so None short = lt-leb (2 + count_of s) (length s) (omega (arith, counted, length-drop 2 s, ap length is_rest))
+  split_so (Some p) h =
+      let fits : 2 + count_of s ≤ length s = omega (arith, counted, length-drop 2 s, ap length is_rest, h) in
+      record {
+        whole = le-leb (2 + count_of s) (length s) fits;
+        front_is = h.1 ∙ rw (counted, is_rest);
+        rest_is = h.2 ∙ rw (counted, is_rest, drop-drop);
+      }
 
 -- ---- sections in a row
 

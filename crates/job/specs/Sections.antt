@@ -1,5 +1,5 @@
 -- Sections: each stands behind its two-byte count, the high byte first (01, The desk's program). Assumes nothing.
-use Rattle.std.specs.Prelude.{ℕ, zero, suc, ◌+◌, ◌*◌, Bool, false, cond, List, eqb, leb, length, take, drop, get_or}
+use Rattle.std.specs.Prelude.{◌≡◌, ℕ, zero, suc, ◌+◌, ◌*◌, Bool, true, false, cond, List, eqb, leb, length, take, drop, get_or}
 
 -- ---- the first section
 
@@ -15,6 +15,12 @@ section_of s = take (count_of s) (drop 2 s)
 
 unfoldable pub behind_of : List ℕ → List ℕ
 behind_of s = drop (2 + count_of s) s
+
+-- s in two: the section at its front, in full, and what stands behind it
+pub record Split (s front rest : List ℕ) : Type 0 where
+  pub whole : whole_at s ≡ true
+  pub front_is : front ≡ section_of s
+  pub rest_is : rest ≡ behind_of s
 
 -- ---- all of them
 

@@ -2,9 +2,7 @@
 // and output hold the desk's answers under the gate.
 #![tactic(auto)]
 
-ghost use Rattle.std.specs.Prelude.{◌<◌, ◌≤◌, length};
-
-use job::sections::{section, whole};
+use job::sections::split;
 
 // The descriptors of standard input and standard output.
 const INPUT: i32 = 0;
@@ -19,24 +17,12 @@ fn one(job: &[u8]) {
     io::write_all(OUTPUT, &text[..k]);
 }
 
-// Runs the job at a place and answers the next place; what is no whole job ends the input.
-fn next(s: &[u8], at: usize) -> usize
-    requires { at < length s.now }
-    ensures { (at < result) × (result ≤ length s.now) }
-{
-    let rest = &s[at..];
-    if !whole(rest) {
-        return s.len();
-    }
-    let job = section(rest);
-    one(job);
-    at + 2 + job.len()
-}
-
+// Runs the jobs one after another; what is no whole job ends the input.
 fn all(s: &[u8]) {
-    let mut at = 0;
-    while at < s.len() {
-        at = next(s, at);
+    let mut rest = s;
+    while let Some((job, behind)) = split(rest) {
+        one(job);
+        rest = behind;
     }
 }
 

@@ -20,7 +20,7 @@ use Rattle.ciphers.proofs.Laws.{tk_low}
 use Rattle.prepared.specs.Prepared.{key_in}
 use Rattle.prepared.proofs.Found.{key_block}
 use Rattle.kept.specs.declared.Kept.{Kept}
-use Rattle.kept.specs.Kept.{Keeps, TurnedTo}
+use Rattle.kept.specs.Kept.{Holds, TurnedTo}
 
 -- ---- bytes and cells
 
@@ -115,7 +115,7 @@ module _ (key : List ℕ) where
 -- ---- what is kept
 
 -- N is the block's size as the code has it
-module _ (c : Cipher) {share : List ℕ} (tweak : List ℕ) {keys : List (List ℕ)} {kept : Kept} {m : ℕ} (N : ℕ) (s : Keeps c share kept keys) (some : 0 < m)
+module _ (c : Cipher) {share : List ℕ} (tweak : List ℕ) {keys : List (List ℕ)} {kept : Kept} {m : ℕ} (N : ℕ) (s : Holds c share kept keys)
     (h : m ≤ kept.rounds) (size : N ≡ block_of c) (w : length tweak ≡ 16) (p : take (N - 1) kept.tweak ≡ take (N - 1) tweak) where
   abbrev d : ℕ
   d = bit_xor (get_or kept.tweak (N - 1) 0) (get_or tweak (N - 1) 0)
@@ -139,7 +139,6 @@ module _ (c : Cipher) {share : List ℕ} (tweak : List ℕ) {keys : List (List �
           most = s.most;
           long = s.long;
           keyed = subst (λ (t : Tweakey). RoundKeys (width_of c) (words_of c) kept.rounds t keys) (cells_same (key_in c share) c kept.tweak tweak all) s.keyed;
-          fresh = λ z. absurd (omega arith);
         };
       } where
         whole : (c : Cipher) → block_of c - 1 + 1 ≡ block_of c
@@ -162,6 +161,5 @@ module _ (c : Cipher) {share : List ℕ} (tweak : List ℕ) {keys : List (List �
       keyed =
           let key = key_in c share in
           change (tk c key kept.tweak) (tk c key tweak) (changed key kept.tweak tweak d c (key_block c share).bytes b f e) s.keyed;
-      fresh = λ z. absurd (omega arith);
     };
   }

@@ -6,7 +6,6 @@ use native.Mathlib.Omega.{arith}
 use lib.ListN.{length, get_or}
 use Rattle.cells.specs.Cells.{Bytes, Nibble, Byte, Two, Three}
 use Rattle.cells.proofs.Tabs.{agree}
-use Rattle.constants.specs.Constants.{Room}
 use Rattle.schedule.specs.declared.Tweakey.{Tweakey}
 use Rattle.schedule.specs.Schedule.{RoundKeys}
 use Rattle.schedule.specs.Share.{share_cell, tweak_at, Parts}
@@ -14,9 +13,9 @@ use Rattle.ciphers.specs.declared.Cipher.{Cipher}
 use Rattle.ciphers.specs.declared.Cipher.TheVariants.{N64T192, N128T256}
 use Rattle.ciphers.specs.Ciphers.{width_of, words_of, key_cells, tweak_cells, tk}
 use Rattle.ciphers.proofs.Laws.{tk_at, tk_low}
-use Rattle.kept.specs.Kept.{nothing, Keeps, TurnedTo}
+use Rattle.kept.specs.Kept.{TurnedTo}
 use Rattle.prepared.specs.Prepared.{unmoving, key_in, Made}
-use Rattle.prepared.proofs.Found.{key_block, zeros_bytes}
+use Rattle.prepared.proofs.Found.{key_block}
 use Rattle.prepared.proofs.Loops.{shares_at}
 
 -- the key's words do not depend on the tweak
@@ -45,16 +44,6 @@ parts c share tweak e b =
 
 -- ---- what is kept
 
-pub none_kept : (c : Cipher) (share : List ℕ) (keys : List (List ℕ)) → Room keys → Keeps c share nothing keys
-none_kept c share keys r =
-    let key = key_in c share in record {
-      wide = refl;
-      most = omega arith;
-      long = r.long;
-      keyed = record { first = tk_at c key unmoving; low = tk_low c key unmoving (key_block c share).bytes zeros_bytes; at = λ i p. absurd (omega arith) };
-      fresh = λ e. r;
-    }
-
 pub laid_anew
     : (c : Cipher) (share tweak : List ℕ) {keys : List (List ℕ)} (m : ℕ) → 0 < m → m ≤ 87 → Made c share → Bytes tweak → length tweak ≡ 16 → length keys ≡ 97
     → ((t : Tweakey) → Parts (width_of c) (words_of c) t share (tweak_cells c tweak) → RoundKeys (width_of c) (words_of c) m t keys)
@@ -67,6 +56,5 @@ laid_anew c share tweak m some h e b w l laid = record {
     most = h;
     long = l;
     keyed = laid (tk c (key_in c share) tweak) (parts c share tweak e b);
-    fresh = λ z. absurd (omega arith);
   };
 }

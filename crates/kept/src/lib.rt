@@ -4,7 +4,7 @@
 ghost use Rattle.std.specs.Prelude.{◌≡◌, true, ◌-◌, ◌<◌, ◌≤◌, take};
 ghost use Rattle.constants.specs.Constants.{Room};
 ghost use Rattle.prepared.specs.Prepared.{Made};
-ghost use Rattle.kept.specs.Kept.{nothing, Keeps, TurnedTo};
+ghost use Rattle.kept.specs.Kept.{Holds, Keeps, TurnedTo};
 
 use blocks::equal;
 use ciphers::Cipher;
@@ -16,28 +16,12 @@ pub struct Kept {
     pub rounds: usize,
 }
 
-// Of a room in which nothing is laid.
-pub fn nothing_kept() -> Kept
-    ensures { result ≡ nothing }
-{
-    Kept {
-        tweak: [0u8; 16],
-        rounds: 0,
-    }
-}
-
-// The keys of the first m rounds, laid on the constants.
-pub fn lay(
-    c: Cipher,
-    share: &[u8; 784],
-    keys: &mut [[u8; 8]; 97],
-    tweak: [u8; 16],
-    m: usize,
-) -> Kept
+// The keys of the first m rounds, laid on the constants. (A tweak is lent, so that the checker knows its bytes for bytes.)
+fn lay(c: Cipher, share: &[u8; 784], keys: &mut [[u8; 8]; 97], tweak: &[u8; 16], m: usize) -> Kept
     requires { (0 < m) × (m ≤ 87) × Made c share.now × Room keys.old }
-    ensures { TurnedTo c share.now tweak m result keys.new }
+    ensures { TurnedTo c share.now tweak.now m result keys.new }
 {
-    ciphers::bytes_known(&tweak);
+    let tweak = *tweak;
     ciphers::lay_keys(c, keys, m, share, tweak);
     Kept { tweak, rounds: m }
 }
@@ -54,36 +38,50 @@ fn same_but_last(n: usize, old: [u8; 16], tweak: [u8; 16]) -> bool
     equal(&near[..n], &tweak[..n])
 }
 
-// The room turned to a tweak, for m rounds at least. Where only the last byte is another one, the keys are corrected; this is so from block to
-// block of PAEF, but for one in 256, and SAEF has one tweak for most blocks.
-pub fn turn_to(
+// A room with keys in it turned to a tweak, for m rounds at least. Where only the last byte is another one, the keys are corrected; this is so
+// from block to block of PAEF, but for one in 256, and SAEF has one tweak for most blocks.
+fn turn(
     c: Cipher,
     share: &[u8; 784],
     keys: &mut [[u8; 8]; 97],
     kept: Kept,
-    tweak: [u8; 16],
+    tweak: &[u8; 16],
     m: usize,
 ) -> Kept
-    requires { (0 < m) × (m ≤ 87) × Made c share.now × Keeps c share.now kept keys.old }
-    ensures { TurnedTo c share.now tweak m result keys.new }
+    requires { (0 < m) × (m ≤ 87) × Made c share.now × Holds c share.now kept keys.old }
+    ensures { TurnedTo c share.now tweak.now m result keys.new }
 {
     let old = kept.tweak;
     let rounds = kept.rounds;
     let n = ciphers::block_of(c);
     if m <= rounds {
-        if same_but_last(n, old, tweak) {
-            ciphers::bytes_known(&tweak);
-            let d = old[n - 1] ^ tweak[n - 1];
-            if d == 0 {
-                return Kept { tweak, rounds };
+        let new = *tweak;
+        if same_but_last(n, old, new) {
+            let d = old[n - 1] ^ new[n - 1];
+            if d != 0 {
+                ciphers::change_last(c, keys, rounds, d);
             }
-            ciphers::change_last(c, keys, rounds, d);
-            return Kept { tweak, rounds };
+            return Kept { tweak: new, rounds };
         }
-    }
-    if rounds == 0 {
-        return lay(c, share, keys, tweak, m); // the room has the constants
     }
     *keys = constants::room();
     lay(c, share, keys, tweak, m)
+}
+
+// A room turned to a tweak, for m rounds at least. One in which nothing is kept has the constants.
+pub fn turn_to(
+    c: Cipher,
+    share: &[u8; 784],
+    keys: &mut [[u8; 8]; 97],
+    kept: Option<Kept>,
+    tweak: &[u8; 16],
+    m: usize,
+) -> Kept
+    requires { (0 < m) × (m ≤ 87) × Made c share.now × Keeps c share.now kept keys.old }
+    ensures { TurnedTo c share.now tweak.now m result keys.new }
+{
+    match kept {
+        Some(old) => turn(c, share, keys, old, tweak, m),
+        None => lay(c, share, keys, tweak, m),
+    }
 }

@@ -4,13 +4,14 @@
 --     output_none, _some     what an output is where there are no bytes, and where there are
 -- Assumes nothing.
 use mathlib.Core.Path.{◌≡◌, refl, sym, ap, ◌∙◌}
-use mathlib.Core.List.{List, [], ◌∷◌, ◌++◌}
+use mathlib.Core.List.{List, [], ◌∷◌, ◌++◌, append_assoc}
 use Prim.Native.Nat.{ℕ, zero, suc, ◌+◌, ◌-◌, ◌/◌, ◌%◌, ◌^◌, ◌≤◌, ◌<◌}
 use native.Mathlib.Nat.{not-suc-le-zero, le_of_suc-le-suc, one-le-pow, pow-succ', pow-le-pow_right, mod-eq_of_lt}
+use native.Mathlib.Numerals.{add-one}
 use native.Mathlib.Omega.{arith}
 use borrow.Author.Tests.{lt-ltb, le-ltb}
-use lib.ListN.{length, take, get_or, length-append, get_or-append}
-use lib.Seq.{get_or_at, get_or-take}
+use lib.ListN.{length, set, take, drop, get_or, length-append}
+use lib.Seq.{get_or_at, set_at, drop-cons}
 use Rattle.io.specs.Counts.{IsPrefixLen}
 use Rattle.io.specs.Digits.{last_digits, IsDigitCount, hex_digit_ascii}
 use Rattle.lines.specs.Line.{digits_of, decimal_of, field_of, hex_of, output_of}
@@ -52,12 +53,11 @@ module _ (n k : ℕ) (d : List ℕ) (most : k ≤ 20) (told : Told n k d) where
   pub field_length : length (field_of n) ≡ k + 1
   field_length = length-append (decimal_of n) (32 ∷ []) ∙ rw long
 
-  pub field_digit : (i : ℕ) → i < k → get_or d i 0 ≡ get_or (field_of n) i 0
-  field_digit i h =
-      sym (get_or-append (decimal_of n) (32 ∷ []) 0 i (omega (arith, long)) ∙ rw (← spelled) (get_or-take k d i 0 h))
-
-  pub field_space : 32 ≡ get_or (field_of n) k 0
-  field_space = sym (get_or_at (decimal_of n) 32 [] 0 k long)
+  -- the digits and a space at the front of a text, the digits copied first
+  pub field_laid : {s : List ℕ} (text : List ℕ) → s ≡ take k d → k < length text → set (s ++ drop k text) k 32 ≡ field_of n ++ drop (k + 1) text
+  field_laid {s} text e h =
+      rw (e ∙ spelled, drop-cons text k 0 h, add-one)
+      (set_at (decimal_of n) (get_or text k 0) (drop (suc k) text) 32 k long ∙ sym (append_assoc (decimal_of n) (32 ∷ []) (drop (suc k) text)))
 
 hex_length : (bs : List ℕ) → length (hex_of bs) ≡ length bs + length bs
 unfolding hex_of

@@ -21,11 +21,7 @@ fn field(n: u64, text: &mut [u8]) -> usize
 {
     let mut digits = [0u8; 20];
     let k = io::decimal(n, &mut digits);
-    let mut i = 0;
-    while i < k {
-        text[i] = digits[i];
-        i += 1;
-    }
+    text[..k].copy_from_slice(&digits[..k]);
     text[k] = 32;
     k + 1
 }
@@ -35,23 +31,18 @@ fn output(bytes: &[u8], text: &mut [u8]) -> usize
     requires { length bytes.now + length bytes.now + 2 ≤ length text.old }
     ensures { (result ≤ length bytes.now + length bytes.now + 2) × Puts (output_of bytes.now) result text.old text.new }
 {
-    let n = bytes.len();
-    if n == 0 {
+    if bytes.is_empty() {
         text[0] = 45;
         text[1] = 10;
         return 2;
     }
-    let mut i = 0;
-    let mut at = 0;
-    while i < n {
-        let b = bytes[i];
-        text[at] = digit(b / 16);
-        text[at + 1] = digit(b % 16);
-        at += 2;
-        i += 1;
+    for (i, b) in bytes.iter().enumerate() {
+        text[2 * i] = digit(*b / 16);
+        text[2 * i + 1] = digit(*b % 16);
     }
-    text[at] = 10;
-    at + 1
+    let end = 2 * bytes.len();
+    text[end] = 10;
+    end + 1
 }
 
 // The line of an answer, at the front of the text; answers how long it is.

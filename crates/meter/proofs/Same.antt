@@ -3,9 +3,7 @@
 use mathlib.Core.Path.{◌≡◌, sym, ap, ◌∙◌}
 use Prim.Native.Nat.{ℕ}
 use mathlib.Core.List.{List}
-use Rattle.forkskinny.specs.declared.Forked.{Forked}
-use Rattle.forkskinny.specs.declared.Unforked.{Unforked}
-use Rattle.forkskinny.specs.Calls.{fork_of, unfork_of}
+use Rattle.forkskinny.specs.Calls.{ForkTold, UnforkTold, fork_of, unfork_of}
 use Rattle.sealing.specs.Calls.{Told, seal_of, open_of}
 use Rattle.meter.specs.Entries.{fork_told, unfork_told, call_told}
 
@@ -15,14 +13,14 @@ module _ (r r' k k' : ℕ) (a a' b b' : List ℕ) where
       → (r ≡ r') × (a ≡ a') × (b ≡ b') × (k ≡ k')
   same_fork_metered cipher key tweak block want p q =
       let e = p ∙ sym q in
-      (ap (λ (f : Forked). f.number) e, ap (λ (f : Forked). f.half0) e, ap (λ (f : Forked). f.half1) e, ap (λ (f : Forked). f.rounds) e)
+      (ap (λ (f : ForkTold). f.number) e, ap (λ (f : ForkTold). f.half0) e, ap (λ (f : ForkTold). f.half1) e, ap (λ (f : ForkTold). f.rounds) e)
 
   pub same_unfork_metered : (cipher : ℕ) (key tweak block : List ℕ) (from want : ℕ)
       → unfork_told r a b k ≡ unfork_of cipher key tweak block from want → unfork_told r' a' b' k' ≡ unfork_of cipher key tweak block from want
       → (r ≡ r') × (a ≡ a') × (b ≡ b') × (k ≡ k')
   same_unfork_metered cipher key tweak block from want p q =
       let e = p ∙ sym q in
-      (ap (λ (f : Unforked). f.number) e, ap (λ (f : Unforked). f.input) e, ap (λ (f : Unforked). f.other) e, ap (λ (f : Unforked). f.rounds) e)
+      (ap (λ (f : UnforkTold). f.number) e, ap (λ (f : UnforkTold). f.input) e, ap (λ (f : UnforkTold). f.other) e, ap (λ (f : UnforkTold). f.rounds) e)
 
 module _ (r r' l l' k k' : ℕ) (out out' : List ℕ) where
   same_told : (t : Told) → call_told r l out k ≡ t → call_told r' l' out' k' ≡ t → (r ≡ r') × (l ≡ l') × (out ≡ out') × (k ≡ k')

@@ -1,15 +1,13 @@
--- One turn of a loop that walks a header, seals a body or opens a run block by block, and its end: the loop's invariant. `at` is
+-- One turn of a loop that seals a body or opens a run block by block, and its end: the loop's invariant. `at` is
 -- how far the loop is in its input, `done` what it has laid down, `all` what it comes to. Assumes nothing.
 use mathlib.Core.Path.{◌≡◌, refl, sym, ap, ap₂, ◌∙◌}
 use Prim.Native.Nat.{ℕ, zero, ◌+◌, ◌≤◌, ◌<◌}
 use native.Mathlib.Omega.{arith}
-use mathlib.Core.Bool.{Bool}
 use mathlib.Core.List.{List, [], ◌++◌, append_assoc}
 use lib.ListN.{length, take, drop, length-drop}
 use lib.Seq.{drop-drop}
-use Rattle.modes.specs.Blocks.{full, pad}
-use Rattle.modes.specs.Mode.{Mode, Opened, before, walk, seal_last, seal_rest, open_last, open_rest}
-use Rattle.modes.proofs.Rest.{walk_last, walk_more, seal_rest_last, seal_rest_more, open_rest_last, open_rest_more}
+use Rattle.modes.specs.Mode.{Mode, Opened, before, seal_last, seal_rest, open_last, open_rest}
+use Rattle.modes.proofs.Rest.{seal_rest_last, seal_rest_more, open_rest_last, open_rest_more}
 
 module _ {St : Type 0} (n : ℕ) (M : Mode St) where
   -- what has been laid down, and the rest sealed from here, are `all`
@@ -19,10 +17,6 @@ module _ {St : Type 0} (n : ℕ) (M : Mode St) where
   -- what has been opened, in front of what the rest opens to, is `all`
   unfoldable pub Opening : St → List ℕ → ℕ → List ℕ → Opened → Type 0
   Opening s run at done all = before done (open_rest n M s (drop at run)) ≡ all
-
-  -- walking the rest from here comes to `all`
-  unfoldable pub Walking : Bool → St → List ℕ → ℕ → St → Type 0
-  Walking noM s header at all = walk n M noM s (drop at header) ≡ all
 
 module _ {St : Type 0} (n : ℕ) (M : Mode St) (p : zero < n) where
   -- ---- sealing: y is what the block x is sealed to, s' the state after it
@@ -70,23 +64,3 @@ module _ {St : Type 0} (n : ℕ) (M : Mode St) (p : zero < n) where
   unfolding Opening
   open_end s run at done all e h =
       ap (before done) (sym (open_rest_last n M p s (drop at run) (simp length-drop (omega arith)))) ∙ e
-
-  -- ---- walking: s' is the state after the block x
-
-  pub walk_begin : (noM : Bool) (s : St) (header : List ℕ) → Walking n M noM s header 0 (walk n M noM s header)
-  unfolding Walking
-  walk_begin noM s header = refl
-
-  pub walk_turn : (noM : Bool) (s s' : St) (header : List ℕ) (at : ℕ) (all : St) (x : List ℕ) → Walking n M noM s header at all
-      → at + n < length header → x ≡ take n (drop at header) → s' ≡ M.head s x → Walking n M noM s' header (at + n) all
-  unfolding Walking
-  walk_turn noM s s' header at all x e h ex es =
-      ap (λ (u : St). walk n M noM u (drop (at + n) header)) es
-      ∙ ap₂ (λ (z d : List ℕ). walk n M noM (M.head s z) d) ex (sym (drop-drop n at header))
-      ∙ sym (walk_more n M p noM s (drop at header) (simp length-drop (omega arith)))
-      ∙ e
-
-  pub walk_end : (noM : Bool) (s : St) (header : List ℕ) (at : ℕ) (all : St) → Walking n M noM s header at all → length header ≤ at + n
-      → M.head_last noM (full n (length (drop at header))) s (pad n (drop at header)) ≡ all
-  unfolding Walking
-  walk_end noM s header at all e h = sym (walk_last n M p noM s (drop at header) (simp length-drop (omega arith))) ∙ e

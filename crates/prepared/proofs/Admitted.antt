@@ -3,7 +3,7 @@ use mathlib.Core.Path.{◌≡◌, refl, sym, ap, ◌∙◌}
 use mathlib.Core.Bool.{Bool, true, false, cond, ◌&&◌}
 use mathlib.Core.List.{List, []}
 use mathlib.Core.Logic.{◌≢◌}
-use Prim.Native.Nat.{ℕ}
+use Prim.Native.Nat.{ℕ, ◌≤◌}
 use native.Mathlib.Omega.{arith}
 use borrow.Author.Tests.{eq-eqb, ne_eqb, eqb-true}
 use lib.Dec.{eqb}
@@ -15,8 +15,11 @@ use Rattle.ciphers.specs.Ciphers.{number_of}
 use Rattle.modes.specs.Blocks.{same}
 use Rattle.modes.proofs.Bytes.{same_eq, same_refl}
 use Rattle.prepared.specs.declared.Prepared.{Prepared}
-use Rattle.prepared.specs.declared.Preparation.{Preparation}
-use Rattle.prepared.specs.Prepared.{unmoving, share_of, prepared_of, no_record, refused_with, prepare_of, key_in, Made, Admitted, admitted, key_of}
+use Rattle.std.specs.Prelude.{Result, Ok, Err}
+use Rattle.refusals.specs.declared.Refusal.{Refusal}
+use Rattle.refusals.specs.declared.Refusal.TheVariants.{Unknown, Key, Header, Short, Room, Forged, Nonce, Body, Job, Blank}
+use Rattle.refusals.proofs.Back.{refusal_of, refusal_back}
+use Rattle.prepared.specs.Prepared.{Preparation, prepared_as, unmoving, share_of, prepared_of, no_record, refused_with, prepare_of, key_in, Made, Admitted, admitted, key_of}
 use Rattle.prepared.proofs.Found.{key_back, key_block}
 use Rattle.prepared.proofs.Repeats.{and_true}
 
@@ -80,6 +83,24 @@ one_cipher c d r (k, a, e) (l, b, f) = apart c d (ap (λ (r : Prepared). r.ciphe
   apart N128T256 N64T192 q = absurd (omega arith)
   apart N128T256 N128T256 q = refl
 
+-- ---- what is told names the result: no number that preparing tells is a forged run's
+
+abbrev result_of : Preparation → Result Prepared Refusal
+result_of t = cond (eqb t.number 0) (Ok t.made) (Err (refusal_of t.number 0))
+
+result_back : (a : Result Prepared Refusal) → (prepared_as a).number ≤ 2 → result_of (prepared_as a) ≡ a
+result_back (Ok made) h = refl
+result_back (Err Unknown) h = ap Err (refusal_back Unknown)
+result_back (Err Key) h = ap Err (refusal_back Key)
+result_back (Err Header) h = absurd (omega arith)
+result_back (Err Short) h = absurd (omega arith)
+result_back (Err Room) h = absurd (omega arith)
+result_back (Err (Forged rounds)) h = absurd (omega arith)
+result_back (Err Nonce) h = absurd (omega arith)
+result_back (Err Body) h = absurd (omega arith)
+result_back (Err Job) h = absurd (omega arith)
+result_back (Err Blank) h = absurd (omega arith)
+
 -- ---- preparing: which number is answered, and with which record
 
 module _ (cipher : ℕ) (key : List ℕ) where
@@ -97,6 +118,22 @@ module _ (cipher : ℕ) (key : List ℕ) where
   no_key N64T192 e h = simp (e, ne_eqb (length key) 16 h)
   no_key N128T256 e h = simp (e, ne_eqb (length key) 16 h)
 
+  abbrev made : Cipher → Bool → Preparation
+  made c s = cond s (record { number = 0; made = prepared_of c key }) (refused_with 2)
+
+  -- no number but 0, 1 and 2
+  few : (prepare_of cipher key).number ≤ 2
+  unfolding prepare_of
+  few = chosen (eqb cipher 1) (eqb cipher 2) (eqb (length key) 16) where
+    chosen : (p q s : Bool) → (cond p (made N64T192 s) (cond q (made N128T256 s) (refused_with 1))).number ≤ 2
+    chosen true q true = omega arith
+    chosen true q false = omega arith
+    chosen false true true = omega arith
+    chosen false true false = omega arith
+    chosen false false s = omega arith
+
   -- any two results that the contract allows are equal
-  pub same_prepare : (a b : Preparation) → a ≡ prepare_of cipher key → b ≡ prepare_of cipher key → a ≡ b
-  same_prepare a b p q = cc
+  pub same_prepare : (a b : Result Prepared Refusal) → prepared_as a ≡ prepare_of cipher key → prepared_as b ≡ prepare_of cipher key → a ≡ b
+  same_prepare a b p q = sym (result_back a (few_as p)) ∙ ap result_of (p ∙ sym q) ∙ result_back b (few_as q) where
+    few_as : {t : Preparation} → t ≡ prepare_of cipher key → t.number ≤ 2
+    few_as e = omega (arith, ap (λ (t : Preparation). t.number) e, few)

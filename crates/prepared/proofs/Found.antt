@@ -2,6 +2,7 @@
 use mathlib.Core.Path.{◌≡◌, refl, sym, ap, ap₂, ◌∙◌}
 use mathlib.Core.Bool.{Bool, false, cond, ◌&&◌}
 use mathlib.Core.List.{List, ◌++◌, append-nil}
+use mathlib.Core.Logic.{◌≢◌}
 use Prim.Native.Nat.{ℕ, zero, suc, ◌+◌, ◌*◌, ◌-◌, ◌/◌, ◌%◌, ◌<◌, ◌≤◌}
 use native.Mathlib.Nat.{add-suc}
 use native.Mathlib.Omega.{arith}
@@ -10,6 +11,10 @@ use lib.Bits.{bit_xor, bit_or, xor_comm}
 use lib.Dec.{eqb}
 use lib.ListN.{length, get_or, take, drop, replicate, length-append, drop_of_length-le}
 use lib.Seq.{ext_get_or, get_or-take, length-take-le, take_all, take-append_seam}
+use Rattle.std.proofs.Common.{Ok, Err}
+use Rattle.refusals.specs.declared.Refusal.{Refusal}
+use Rattle.refusals.specs.declared.Refusal.TheVariants.{Key}
+use Rattle.refusals.specs.Refusal as refusal
 use Rattle.cells.specs.Cells.{Bytes, Block, Nibble, Byte, step2, step3}
 use Rattle.cells.specs.Tabs.{tab}
 use Rattle.cells.proofs.Below as below
@@ -18,14 +23,14 @@ use Rattle.cells.proofs.Xor.{xor_assoc, xor_first, xor_last}
 use Rattle.schedule.specs.Sixteen.{times}
 use Rattle.ciphers.specs.declared.Cipher.{Cipher}
 use Rattle.ciphers.specs.declared.Cipher.TheVariants.{N64T192, N128T256}
-use Rattle.ciphers.specs.Ciphers.{key_cells, tk, number_of}
+use Rattle.ciphers.specs.Ciphers.{key_cells, tk, number_of, cipher_named}
 use Rattle.ciphers.proofs.Laws.{tk_low, split_join}
+use Rattle.ciphers.proofs.Named.{told_by, under_names}
 use Rattle.modes.specs.Blocks.{same}
 use Rattle.blocks.proofs.Collected.{or_none}
 use Rattle.blocks.proofs.Parts.{part_rest}
 use Rattle.prepared.specs.declared.Prepared.{Prepared}
-use Rattle.prepared.specs.declared.Preparation.{Preparation}
-use Rattle.prepared.specs.Prepared.{unmoving, shares_of, share_of, prepared_of, prepared_by, no_record, first, second, words_in, joined, key_in, admitted}
+use Rattle.prepared.specs.Prepared.{unmoving, shares_of, share_of, prepared_of, refused_with, prepared_by, prepare_of, prepared_as, first, second, words_in, joined, key_in, admitted}
 use Rattle.prepared.proofs.Loops.{shares_long, share_at, joined_long}
 use Rattle.prepared.proofs.Repeats.{same_if, repeats}
 
@@ -37,11 +42,20 @@ whole key e = append-nil (take 16 key) ∙ take_all 16 key (omega arith)
 
 pub made
     : (c : Cipher) (key : List ℕ) {front share : List ℕ} {n : ℕ} → length key ≡ 16 → front ≡ take 16 key ++ replicate (16 - 16) 0 → share ≡ share_of c front
-    → n ≡ number_of c → ◌≡◌ {A = Preparation} (record { number = 0; made = record { cipher = n; share = share; tweak = unmoving } }) (prepared_by c key)
+    → n ≡ number_of c → prepared_as (Ok (record { cipher = n; share = share; tweak = unmoving })) ≡ prepared_by c key
 made c key e f s d =
     let g = s ∙ ap (share_of c) (f ∙ whole key e) in
     (λ i. record { number = 0; made = record { cipher = d i; share = g i; tweak = unmoving } })
-    ∙ sym (ap (λ (b : Bool). cond b (record { number = 0; made = prepared_of c key }) (record { number = 2; made = no_record })) (eq-eqb (length key) 16 e))
+    ∙ sym (ap (λ (b : Bool). cond b (record { number = 0; made = prepared_of c key }) (refused_with 2)) (eq-eqb (length key) 16 e))
+
+pub not_made : (c : Cipher) (key : List ℕ) → length key ≢ 16 → prepared_as (Err Key) ≡ prepared_by c key
+not_made c key e = sym (ap (λ (b : Bool). cond b (record { number = 0; made = prepared_of c key }) (refused_with 2)) (ne_eqb (length key) 16 e))
+
+-- under the cipher that the number names, or without one
+pub prepare_names
+    : (cipher : ℕ) (key : List ℕ) → prepare_of cipher key ≡ told_by (λ (r : Refusal). refused_with (refusal.number_of r)) (λ (c : Cipher). prepared_by c key) (cipher_named cipher)
+unfolding prepare_of
+prepare_names cipher key = under_names (λ (r : Refusal). refused_with (refusal.number_of r)) (λ (c : Cipher). prepared_by c key) cipher
 
 -- 49 rows laid in a room are all that it holds
 pub rows_all : (c : Cipher) (cells d : List ℕ) → length d ≡ 784 → take 784 (shares_of c cells) ++ drop 784 d ≡ shares_of c cells

@@ -5,16 +5,19 @@ use Prim.Native.Nat.{ℕ, suc, ◌+◌, ◌*◌, ◌-◌, ◌/◌, ◌%◌, ◌<
 use native.Mathlib.Decide.{dec_lt, ℕ_discrete}
 use native.Mathlib.Omega.{arith}
 use lib.Bits.{bit_xor}
-use lib.ListN.{length, get_or, set, take, drop, replicate, length-set, length-replicate}
-use lib.Seq.{get_or-set_same, get_or-set_other, ext_get_or}
+use lib.ListN.{length, get_or, set, take, drop, replicate, length-append, length-set, length-replicate, length-drop, length-take}
+use lib.Seq.{get_or-set_same, get_or-set_other, get_or-take, get_or-drop, length-take-le, take_all, take-add, ext_get_or}
+use borrow.Rule.Slice.PartMut.{put_mid}
+use Rattle.std.proofs.lemmas.Slice.{take-put_mid}
 use Rattle.cells.specs.Cells.{Nibble, Three, step2}
 use Rattle.cells.specs.Tabs.{tab}
 use Rattle.cells.proofs.Tabs.{table, tab_long, agree}
 use Rattle.schedule.specs.Sixteen.{times}
 use Rattle.schedule.specs.Share.{share_cell}
 use Rattle.ciphers.specs.declared.Cipher.{Cipher}
+use Rattle.ciphers.specs.declared.Cipher.TheVariants.{N128T256}
 use Rattle.ciphers.specs.Ciphers.{width_of, words_of}
-use Rattle.blocks.proofs.Over.{Laid, laid_none, laid_more, laid_all}
+use Rattle.blocks.proofs.Over.{Laid, laid_none, laid_more}
 use Rattle.prepared.specs.Prepared.{shares_of, first, second, words_in, joined}
 
 -- ---- a share, over the cipher
@@ -60,9 +63,40 @@ module _ (c : Cipher) (t : List ℕ) {d share : List ℕ} (k : ℕ) where
   shares_rows n e s =
       let i : 16 * k + 0 ≡ 16 * n = omega arith in s.laid.said ∙ ap (λ (i : ℕ). take i (shares_of c t) ++ drop i d) i
 
-  -- all of them
-  pub shares_all : k ≡ 49 → SharesLaid c t d (16 * k + 0) share → share ≡ shares_of c t
-  shares_all e s = laid_all s.laid (shares_long c t) (omega arith) (omega (arith, s.room))
+-- ---- the share of 128-256, k rows of which are laid
+
+pub record RowsLaid (t : List ℕ) (k : ℕ) (share : List ℕ) : Type 0 where
+  pub room : length share ≡ 784
+  pub said : take (16 * k) share ≡ take (16 * k) (shares_of N128T256 t)
+
+-- each of its rows is word 1
+row_at : (t : List ℕ) (k : ℕ) → k < 49 → length t ≡ 48 → take 16 (drop (16 * k) (shares_of N128T256 t)) ≡ take 16 t
+row_at t k h e =
+    let long : length (drop (16 * k) (shares_of N128T256 t)) ≡ 784 - 16 * k = length-drop (16 * k) (shares_of N128T256 t) ∙ omega (arith, shares_long N128T256 t) in
+    let one = length-take-le 16 (drop (16 * k) (shares_of N128T256 t)) (omega arith) in
+    let two = length-take-le 16 t (omega arith) in
+    ext_get_or 0 (take 16 (drop (16 * k) (shares_of N128T256 t))) (take 16 t) (one ∙ sym two)
+    (λ j l. let i : j < 16 = omega (arith, one) in
+    get_or-take 16 (drop (16 * k) (shares_of N128T256 t)) j 0 i ∙ get_or-drop (16 * k) (shares_of N128T256 t) j 0 ∙ shares_at N128T256 t k j h i ∙ sym (get_or-take 16 t j 0 i))
+
+pub rows_more
+    : {t share row : List ℕ} {k n : ℕ} → RowsLaid t k share → k < 49 → length t ≡ 48 → row ≡ take 16 t → n ≡ 16
+    → RowsLaid t (k + 1) (put_mid (16 * k) n share row)
+rows_more {t} {share} {row} {k} {n} r h e f w =
+    let S = shares_of N128T256 t in
+    let long : length row ≡ 16 = ap length f ∙ length-take-le 16 t (omega arith) in
+    let on : 16 * k + 16 ≡ 16 * (k + 1) = omega arith in
+    record {
+      room = simp (length-append, length-take, length-drop) (omega (arith, r.room));
+      said =
+          take-put_mid (16 * k) n share row (16 * (k + 1)) (omega arith) (omega (arith, r.room))
+          ∙ ap₂ ◌++◌ r.said (f ∙ sym (row_at t k h e))
+          ∙ sym (take-add (16 * k) 16 S) ∙ ap (λ (i : ℕ). take i S) on;
+    }
+
+pub rows_done : {t share : List ℕ} {k : ℕ} → RowsLaid t k share → 49 ≤ k → share ≡ shares_of N128T256 t
+rows_done {t} {share} {k} r h =
+    sym (take_all (16 * k) share (omega (arith, r.room))) ∙ r.said ∙ take_all (16 * k) (shares_of N128T256 t) (omega (arith, shares_long N128T256 t))
 
 -- ---- the cells of 64-192 on the way: k rows are laid, and j cells of the next
 

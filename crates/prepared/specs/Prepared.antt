@@ -1,7 +1,9 @@
 -- A prepared key (C-16): the record that preparing makes of a key, the key that a record was made of, and which records are admitted.
 -- Assumes nothing.
-use Rattle.std.specs.Prelude.{◌≡◌, Bool, cond, ◌&&◌, List, [], ◌++◌, ℕ, ◌+◌, ◌*◌, ◌/◌, ◌%◌, eqb, length, get_or, replicate}
+use Rattle.std.specs.Prelude.{Result, Ok, Err, ◌≡◌, Bool, cond, ◌&&◌, List, [], ◌++◌, ℕ, ◌+◌, ◌*◌, ◌/◌, ◌%◌, eqb, length, get_or, replicate}
 use Rattle.std.specs.Int.Bits.{bit_xor}
+use Rattle.refusals.specs.declared.Refusal.{Refusal}
+use Rattle.refusals.specs.Refusal as refusal
 use Rattle.cells.specs.Cells.{Block, Nibble, step3}
 use Rattle.cells.specs.Tabs.{tab}
 use Rattle.schedule.specs.Sixteen.{times}
@@ -11,7 +13,6 @@ use Rattle.ciphers.specs.declared.Cipher.TheVariants.{N64T192, N128T256}
 use Rattle.ciphers.specs.Ciphers.{width_of, words_of, key_cells, number_of, under_cipher}
 use Rattle.modes.specs.Blocks.{same}
 use Rattle.prepared.specs.declared.Prepared.{Prepared}
-use Rattle.prepared.specs.declared.Preparation.{Preparation}
 
 -- ---- what preparing makes of a key
 
@@ -36,6 +37,10 @@ record_of cipher share tweak = record { cipher = cipher; share = share; tweak = 
 
 -- ---- what preparing answers: 0 and the record, or a number and one fixed record; 1 before 2 (C-16)
 
+pub record Preparation : Type 0 where
+  pub number : ℕ
+  pub made : Prepared
+
 abbrev pub no_record : Prepared
 no_record = record { cipher = 0; share = replicate 784 0; tweak = unmoving }
 
@@ -47,6 +52,11 @@ prepared_by c key = cond (eqb (length key) 16) (record { number = 0; made = prep
 
 unfoldable pub prepare_of : (cipher : ℕ) → (key : List ℕ) → Preparation
 prepare_of cipher key = under_cipher cipher (λ c. prepared_by c key) (refused_with 1)
+
+-- what is told of a key that is prepared, and of one that is refused
+abbrev pub prepared_as : Result Prepared Refusal → Preparation
+prepared_as (Ok made) = record { number = 0; made = made }
+prepared_as (Err r) = refused_with (refusal.number_of r)
 
 -- ---- admitted: some sixteen-byte key gives this record under the cipher (C-16)
 

@@ -5,25 +5,20 @@
 ghost use Rattle.std.specs.Prelude.{◌≡◌, ◌++◌, ◌*◌, ◌≤◌, eqb, length, take, drop};
 ghost use Rattle.ciphers.specs.declared.Cipher.TheVariants.{N64T192, N128T256};
 ghost use Rattle.modes.specs.Blocks.{same};
-ghost use Rattle.prepared.specs.Prepared.{shares_of, share_of, record_of, prepared_by, prepare_of, refused_with, words_in, joined, key_in, admitted};
+ghost use Rattle.prepared.specs.Prepared.{shares_of, share_of, prepare_of, prepared_as, words_in, joined, key_in, admitted};
 
 use blocks::{differences, front};
 use ciphers::Cipher;
+use refusals::Refusal;
 
 // The tweakey record: the number of its cipher, 49 rows of sixteen cells one after the other, which are the key's share of the rounds, and
-// the moving part, the word of the tweak, zeros before a call.
+// the moving part, the word of the tweak, zeros before a call. (A number, no `Cipher`: a record that is lent may hold any, and what judging
+// says of it, `only_admitted` and `one_cipher`, is about every value.)
 #[derive(Clone, Copy)]
 pub struct Prepared {
     pub cipher: u32,
     pub share: [u8; 784],
     pub tweak: [u8; 16],
-}
-
-// What preparing answers: 0 and the record, or a number and a record that no call admits.
-#[derive(Clone, Copy)]
-pub struct Preparation {
-    pub number: u32,
-    pub made: Prepared,
 }
 
 // ---- preparing
@@ -48,9 +43,7 @@ fn lay_128_256(share: &mut [u8; 784], cells: [u8; 48])
     ensures { share.new ≡ shares_of N128T256 cells }
 {
     for k in 0..49 {
-        for j in 0..16 {
-            share[16 * k + j] = cells[j];
-        }
+        share[16 * k..16 * k + 16].copy_from_slice(&cells[..16]);
     }
 }
 
@@ -68,47 +61,20 @@ pub fn share_of(c: Cipher, key: [u8; 16]) -> [u8; 784]
     share
 }
 
-fn refused(number: u32) -> Preparation
-    ensures { result ≡ refused_with number }
+// Prepares a key for the cipher that a number names. Refused with 1 (no such cipher) or 2 (key length), in this order.
+pub fn prepare(cipher: u32, key: &[u8]) -> Result<Prepared, Refusal>
+    ensures { prepared_as result ≡ prepare_of cipher key.now }
 {
-    Preparation {
-        number,
-        made: Prepared {
-            cipher: 0,
-            share: [0u8; 784],
-            tweak: [0u8; 16],
-        },
-    }
-}
-
-fn prepare_by(c: Cipher, key: &[u8]) -> Preparation
-    ensures { result ≡ prepared_by c key.now }
-{
+    let c = Cipher::try_from(cipher)?;
     if key.len() != 16 {
-        return refused(2);
+        return Err(Refusal::Key);
     }
     let share = share_of(c, front(key, 16));
-    Preparation {
-        number: 0,
-        made: Prepared {
-            cipher: ciphers::number_of(c),
-            share,
-            tweak: [0u8; 16],
-        },
-    }
-}
-
-// Prepares a key for the cipher that a number names. Refused with 1 (no such cipher) or 2 (key length), in this order.
-pub fn prepare(cipher: u32, key: &[u8]) -> Preparation
-    ensures { result ≡ prepare_of cipher key.now }
-{
-    if cipher == 1 {
-        return prepare_by(Cipher::N64T192, key);
-    }
-    if cipher == 2 {
-        return prepare_by(Cipher::N128T256, key);
-    }
-    refused(1)
+    Ok(Prepared {
+        cipher: u32::from(c),
+        share,
+        tweak: [0u8; 16],
+    })
 }
 
 // ---- judging
@@ -133,11 +99,7 @@ fn words_in(share: &[u8; 784]) -> [u8; 32]
 fn join(cells: [u8; 32]) -> [u8; 16]
     ensures { result ≡ joined cells }
 {
-    let mut key = [0u8; 16];
-    for i in 0..16 {
-        key[i] = cells[2 * i] % 16 * 16 + cells[2 * i + 1] % 16;
-    }
-    key
+    std::array::from_fn(|i| cells[2 * i] % 16 * 16 + cells[2 * i + 1] % 16)
 }
 
 // Where a share of 64-192 is not the one that its key gives, or 0. A nibble of word 2 is as it was after fifteen steps: so fifteen rows
@@ -160,7 +122,6 @@ fn differ_128_256(share: &[u8; 784]) -> u8
     ensures { eqb result 0 ≡ same share.now (share_of N128T256 (key_in N128T256 share.now)) }
 {
     let rows = &share[..];
-    ciphers::bytes_known(rows);
     differences(&rows[16..], &rows[..768])
 }
 
@@ -173,15 +134,17 @@ fn differ(c: Cipher, share: &[u8; 784]) -> u8
     }
 }
 
-// Whether a record is admitted under a cipher; its parts are lent or given, so that the share is not copied.
-pub fn judge(c: Cipher, cipher: u32, share: &[u8; 784], tweak: [u8; 16]) -> bool
-    ensures { result ≡ admitted c (record_of cipher share.now tweak) }
-{
-    if cipher != ciphers::number_of(c) {
-        return false;
+impl Prepared {
+    // Whether a record is admitted under a cipher: some key gives it. No byte of its share and of its moving part ends this early.
+    pub fn is_admitted(&self, c: Cipher) -> bool
+        ensures { result ≡ admitted c self.now }
+    {
+        if self.cipher != u32::from(c) {
+            return false;
+        }
+        let in_share = differ(c, &self.share);
+        let unmoving = [0u8; 16];
+        let in_tweak = differences(&self.tweak, &unmoving);
+        (in_share | in_tweak) == 0
     }
-    let in_share = differ(c, share);
-    let unmoving = [0u8; 16];
-    let in_tweak = differences(&tweak, &unmoving);
-    (in_share | in_tweak) == 0
 }

@@ -5,7 +5,9 @@ use native.Mathlib.Omega.{arith}
 use lib.Arith.{mod-mul}
 use lib.ListN.{get_or}
 use mathlib.Core.List.{List}
-use lib.Bits.{bit_xor, bit_or, or_shifted, or_shifted_r}
+use lib.Bits.{bit_xor, bit_or, or_shifted}
+use Rattle.std.specs.Int.{w32, rotate_left, rotate_right, from_le_bytes, to_le_bytes}
+use Rattle.std.proofs.lemmas.Nat.{or_comm}
 use Rattle.cells.specs.Words.{lane, not8}
 use Rattle.cells.proofs.Lanes.{lane_lt, lane_xor}
 use Rattle.cells.proofs.Xor.{xor_last}
@@ -16,26 +18,17 @@ fours p q r s = λ i. four (p i) (q i) (r i) (s i)
 
 -- ---- four bytes put together
 
-joined
-    : (a b c d : ℕ) → a < 256 → b < 256 → c < 256 → d < 256
-    → bit_or (bit_or (bit_or a (b * 256 % 4294967296)) (c * 65536 % 4294967296)) (d * 16777216 % 4294967296)
-    ≡ d * 16777216 + (c * 65536 + (b * 256 + a))
-joined a b c d ha hb hc hd =
-    let eb : b * 256 % 4294967296 ≡ b * 256 = omega arith in
-    let ec : c * 65536 % 4294967296 ≡ c * 65536 = omega arith in
-    let ed : d * 16777216 % 4294967296 ≡ d * 16777216 = omega arith in
-    (λ i. bit_or (bit_or (bit_or a (eb i)) (ec i)) (ed i))
-    ∙ ap (λ (x : ℕ). bit_or (bit_or x (c * 65536)) (d * 16777216)) (or_shifted_r b 8 a ha)
-    ∙ ap (λ (x : ℕ). bit_or x (d * 16777216)) (or_shifted_r c 16 (b * 256 + a) (omega arith))
-    ∙ or_shifted_r d 24 (c * 65536 + (b * 256 + a)) (omega arith)
-
 row_of_sum : (a b c d : ℕ) → a < 256 → b < 256 → c < 256 → d < 256 → row (lane (d * 16777216 + (c * 65536 + (b * 256 + a)))) ≡ four a b c d
 row_of_sum a b c d ha hb hc hd = fours (omega arith) (omega arith) (omega arith) (omega arith)
 
-pub word_row
-    : (a b c d : ℕ) → a < 256 → b < 256 → c < 256 → d < 256
-    → row (lane (bit_or (bit_or (bit_or a (b * 256 % 4294967296)) (c * 65536 % 4294967296)) (d * 16777216 % 4294967296))) ≡ four a b c d
-word_row a b c d ha hb hc hd = ap (λ (x : ℕ). row (lane x)) (joined a b c d ha hb hc hd) ∙ row_of_sum a b c d ha hb hc hd
+pub bytes_row : (r : List ℕ) → ((j : ℕ) → get_or r j 0 < 256) → row (lane (from_le_bytes w32 r)) ≡ row (λ j. get_or r j 0)
+bytes_row r h =
+    let a = get_or r 0 0 in
+    let b = get_or r 1 0 in
+    let c = get_or r 2 0 in
+    let d = get_or r 3 0 in
+    let e : from_le_bytes w32 r ≡ d * 16777216 + (c * 65536 + (b * 256 + a)) = omega arith in
+    ap (λ (x : ℕ). row (lane x)) e ∙ row_of_sum a b c d (h 0) (h 1) (h 2) (h 3)
 
 -- ---- a word rotated
 
@@ -71,26 +64,44 @@ module _ (x a b c d : ℕ) (e : x ≡ d * 16777216 + (c * 65536 + (b * 256 + a))
       let r : x / 256 ≡ d * 65536 + (c * 256 + b) = omega arith in
       (λ i. row (lane (bit_or (l i) (r i)))) ∙ ap (λ (y : ℕ). row (lane y)) (or_shifted a 24 (d * 65536 + (c * 256 + b)) (omega arith)) ∙ row_of_sum b c d a hb hc hd ha
 
-module _ (x : ℕ) (h : x < 4294967296) where
-  pub right_1_row : row (lane (bit_or (x * 256 % 4294967296) (x / 16777216))) ≡ four (lane x 3) (lane x 0) (lane x 1) (lane x 2)
-  right_1_row = turned_1 x _ _ _ _ (sum_of_row x h) (lane_lt x 0) (lane_lt x 1) (lane_lt x 2) (lane_lt x 3)
+module _ (x y : ℕ) (h : x < 4294967296) where
+  pub turned_left_1 : y ≡ rotate_left w32 x 8 → row (lane y) ≡ four (lane x 3) (lane x 0) (lane x 1) (lane x 2)
+  turned_left_1 e = ap (λ (z : ℕ). row (lane z)) e ∙ turned_1 x _ _ _ _ (sum_of_row x h) (lane_lt x 0) (lane_lt x 1) (lane_lt x 2) (lane_lt x 3)
 
-  pub right_2_row : row (lane (bit_or (x * 65536 % 4294967296) (x / 65536))) ≡ four (lane x 2) (lane x 3) (lane x 0) (lane x 1)
-  right_2_row = turned_2 x _ _ _ _ (sum_of_row x h) (lane_lt x 0) (lane_lt x 1) (lane_lt x 2) (lane_lt x 3)
+  pub turned_left_2 : y ≡ rotate_left w32 x 16 → row (lane y) ≡ four (lane x 2) (lane x 3) (lane x 0) (lane x 1)
+  turned_left_2 e = ap (λ (z : ℕ). row (lane z)) e ∙ turned_2 x _ _ _ _ (sum_of_row x h) (lane_lt x 0) (lane_lt x 1) (lane_lt x 2) (lane_lt x 3)
 
-  pub right_3_row : row (lane (bit_or (x * 16777216 % 4294967296) (x / 256))) ≡ four (lane x 1) (lane x 2) (lane x 3) (lane x 0)
-  right_3_row = turned_3 x _ _ _ _ (sum_of_row x h) (lane_lt x 0) (lane_lt x 1) (lane_lt x 2) (lane_lt x 3)
+  pub turned_left_3 : y ≡ rotate_left w32 x 24 → row (lane y) ≡ four (lane x 1) (lane x 2) (lane x 3) (lane x 0)
+  turned_left_3 e = ap (λ (z : ℕ). row (lane z)) e ∙ turned_3 x _ _ _ _ (sum_of_row x h) (lane_lt x 0) (lane_lt x 1) (lane_lt x 2) (lane_lt x 3)
+
+  -- to the right by as much as is left
+  pub turned_right_1 : y ≡ rotate_right w32 x 8 → row (lane y) ≡ four (lane x 1) (lane x 2) (lane x 3) (lane x 0)
+  turned_right_1 e = turned_left_3 (e ∙ or_comm (x / 256) (x * 16777216 % 4294967296))
+
+  pub turned_right_2 : y ≡ rotate_right w32 x 16 → row (lane y) ≡ four (lane x 2) (lane x 3) (lane x 0) (lane x 1)
+  turned_right_2 e = turned_left_2 (e ∙ or_comm (x / 65536) (x * 65536 % 4294967296))
+
+  pub turned_right_3 : y ≡ rotate_right w32 x 24 → row (lane y) ≡ four (lane x 3) (lane x 0) (lane x 1) (lane x 2)
+  turned_right_3 e = turned_left_1 (e ∙ or_comm (x / 16777216) (x * 256 % 4294967296))
 
 -- ---- a row held by its complements
+
+turned_over : (x j : ℕ) → lane 4294967295 j ≡ 255 → lane (bit_xor x 4294967295) j ≡ not8 (lane x j)
+turned_over x j e = lane_xor x 4294967295 j ∙ ap (bit_xor (lane x j)) e
+
+-- the bytes of the word turned over
+pub bytes_over : (x : ℕ) → to_le_bytes w32 (bit_xor x 4294967295) ≡ row (λ j. not8 (lane x j))
+bytes_over x =
+    let y = bit_xor x 4294967295 in
+    let first : y % 256 ≡ lane y 0 = omega arith in
+    fours (first ∙ turned_over x 0 refl) (turned_over x 1 refl) (turned_over x 2 refl) (turned_over x 3 refl)
 
 pub held_row
     : (x : ℕ) (r : List ℕ) → row (lane x) ≡ row (λ j. get_or r j 0)
     → row (λ j. not8 (lane (bit_xor x 4294967295) j)) ≡ row (λ j. get_or r j 0)
-held_row x r e =
-    fours (back 0 refl) (back 1 refl) (back 2 refl) (back 3 refl) ∙ e
-  where
-    back : (j : ℕ) → lane 4294967295 j ≡ 255 → not8 (lane (bit_xor x 4294967295) j) ≡ lane x j
-    back j e = ap not8 (lane_xor x 4294967295 j ∙ ap (bit_xor (lane x j)) e) ∙ xor_last (lane x j) 255
+held_row x r e = fours (back 0 refl) (back 1 refl) (back 2 refl) (back 3 refl) ∙ e where
+  back : (j : ℕ) → lane 4294967295 j ≡ 255 → not8 (lane (bit_xor x 4294967295) j) ≡ lane x j
+  back j e = ap not8 (turned_over x j e) ∙ xor_last (lane x j) 255
 
 -- ---- two rows of nibbles in one, the second in the high nibbles
 

@@ -10,44 +10,33 @@ pub mod words;
 ghost use Rattle.std.specs.Prelude.{◌≡◌};
 ghost use Rattle.cells.specs.Cells.{Nibble, LowCells};
 ghost use Rattle.cells.specs.Words.{lane};
-ghost use Rattle.rounds.specs.State.{four, row, shift_rows, unshift_rows, mix_columns, unmix_columns};
+ghost use Rattle.rounds.specs.State.{row, shift_rows, unshift_rows, mix_columns, unmix_columns};
 ghost use Rattle.rounds.specs.Words.{lanes, shown, added, linear, unlinear, pair_row, linear_by};
 
 use words::{lower_half, upper_half};
 
-// A row turns right by one cell.
-fn right_1(x: u32) -> u32
-    ensures { row (lane result) ≡ four (lane x 3) (lane x 0) (lane x 1) (lane x 2) }
-{
-    (x << 8) | (x >> 24)
-}
-
-// By two.
-fn right_2(x: u32) -> u32
-    ensures { row (lane result) ≡ four (lane x 2) (lane x 3) (lane x 0) (lane x 1) }
-{
-    (x << 16) | (x >> 16)
-}
-
-// By three, which is left by one.
-fn right_3(x: u32) -> u32
-    ensures { row (lane result) ≡ four (lane x 1) (lane x 2) (lane x 3) (lane x 0) }
-{
-    (x << 24) | (x >> 8)
-}
-
-// Rows turn right by 0, 1, 2, 3.
+// Rows turn right by 0, 1, 2, 3. (Cells turn right where the word turns left, for the first cell is the lowest byte.)
 fn shift_rows(s: [u32; 4]) -> [u32; 4]
     ensures { lanes result ≡ shift_rows (lanes s) }
 {
-    [s[0], right_1(s[1]), right_2(s[2]), right_3(s[3])]
+    [
+        s[0],
+        s[1].rotate_left(8),
+        s[2].rotate_left(16),
+        s[3].rotate_left(24),
+    ]
 }
 
 // Rows turn left by 0, 1, 2, 3.
 fn unshift_rows(s: [u32; 4]) -> [u32; 4]
     ensures { lanes result ≡ unshift_rows (lanes s) }
 {
-    [s[0], right_3(s[1]), right_2(s[2]), right_1(s[3])]
+    [
+        s[0],
+        s[1].rotate_right(8),
+        s[2].rotate_right(16),
+        s[3].rotate_right(24),
+    ]
 }
 
 // Columns (a, b, c, d) become (a ^ c ^ d, a, b ^ c, a ^ c).

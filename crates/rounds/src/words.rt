@@ -1,41 +1,29 @@
 // A state in words and back: a row of four cells is a word, the first cell its lowest byte, and each byte the complement of a cell.
 ghost use Rattle.std.specs.Prelude.{◌≡◌, ◌+◌, get_or};
-ghost use Rattle.cells.specs.Words.{lane, not8, near, far, pair_of};
+ghost use Rattle.cells.specs.Words.{lane, not8, near, far, pair_of, seen};
 ghost use Rattle.rounds.specs.State.{four, row, sub_by};
 ghost use Rattle.rounds.specs.Words.{shown, paired};
 
-// (A function of its own, so that a byte is widened without a proof where it is read.)
-fn wide(x: u8) -> u32
-    ensures { result ≡ x }
-{
-    x as u32
-}
-
-// Four bytes as a word, the first the lowest.
-fn word(a: u8, b: u8, c: u8, d: u8) -> u32
-    ensures { row (lane result) ≡ four a b c d }
-{
-    wide(a) | (wide(b) << 8) | (wide(c) << 16) | (wide(d) << 24)
-}
+use cells::kinds::Cell;
 
 // What a round adds to row 0, and to row 1.
 pub fn upper_half(t: &[u8; 8]) -> u32
     ensures { row (lane result) ≡ row (λ j. get_or t.now j 0) }
 {
-    word(t[0], t[1], t[2], t[3])
+    u32::from_le_bytes([t[0], t[1], t[2], t[3]])
 }
 
 pub fn lower_half(t: &[u8; 8]) -> u32
     ensures { row (lane result) ≡ row (λ j. get_or t.now (4 + j) 0) }
 {
-    word(t[4], t[5], t[6], t[7])
+    u32::from_le_bytes([t[4], t[5], t[6], t[7]])
 }
 
 // A row of cells as a word.
 fn word_of(r: [u8; 4]) -> u32
     ensures { row (λ j. not8 (lane result j)) ≡ row (λ j. get_or r j 0) }
 {
-    word(r[0], r[1], r[2], r[3]) ^ 0xffffffff
+    u32::from_le_bytes(r) ^ 0xffffffff
 }
 
 // A state as words.
@@ -45,41 +33,11 @@ pub fn words_of(s: [[u8; 4]; 4]) -> [u32; 4]
     [word_of(s[0]), word_of(s[1]), word_of(s[2]), word_of(s[3])]
 }
 
-// The bytes of a word.
-fn byte_0(x: u32) -> u8
-    ensures { result ≡ lane x 0 }
-{
-    (x % 256) as u8
-}
-
-fn byte_1(x: u32) -> u8
-    ensures { result ≡ lane x 1 }
-{
-    ((x >> 8) % 256) as u8
-}
-
-fn byte_2(x: u32) -> u8
-    ensures { result ≡ lane x 2 }
-{
-    ((x >> 16) % 256) as u8
-}
-
-fn byte_3(x: u32) -> u8
-    ensures { result ≡ lane x 3 }
-{
-    ((x >> 24) % 256) as u8
-}
-
 // A word's cells.
 fn row_of(x: u32) -> [u8; 4]
     ensures { result ≡ row (λ j. not8 (lane x j)) }
 {
-    [
-        byte_0(x) ^ 255,
-        byte_1(x) ^ 255,
-        byte_2(x) ^ 255,
-        byte_3(x) ^ 255,
-    ]
+    (x ^ 0xffffffff).to_le_bytes()
 }
 
 // The state that words hold.
@@ -87,6 +45,24 @@ pub fn state_of(x: [u32; 4]) -> [[u8; 4]; 4]
     ensures { result ≡ shown x }
 {
     [row_of(x[0]), row_of(x[1]), row_of(x[2]), row_of(x[3])]
+}
+
+fn row_seen<K: Cell>(r: [u8; 4]) -> [u8; 4]
+    ensures { result ≡ row (λ j. seen K.width (get_or r j 0)) }
+{
+    [K::seen(r[0]), K::seen(r[1]), K::seen(r[2]), K::seen(r[3])]
+}
+
+// The cells of a state, of two nibbles in a byte the first.
+pub fn seen_of<K: Cell>(s: [[u8; 4]; 4]) -> [[u8; 4]; 4]
+    ensures { result ≡ sub_by (seen K.width) s }
+{
+    [
+        row_seen::<K>(s[0]),
+        row_seen::<K>(s[1]),
+        row_seen::<K>(s[2]),
+        row_seen::<K>(s[3]),
+    ]
 }
 
 // ---- two states of nibbles in one, the second in the high nibbles
@@ -114,31 +90,13 @@ pub fn pair_of(s: [[u8; 4]; 4], t: [[u8; 4]; 4]) -> [[u8; 4]; 4]
     ]
 }
 
-fn near_row(r: [u8; 4]) -> [u8; 4]
-    ensures { result ≡ row (λ j. near (get_or r j 0)) }
-{
-    [r[0] % 16, r[1] % 16, r[2] % 16, r[3] % 16]
-}
-
 fn far_row(r: [u8; 4]) -> [u8; 4]
     ensures { result ≡ row (λ j. far (get_or r j 0)) }
 {
     [r[0] / 16, r[1] / 16, r[2] / 16, r[3] / 16]
 }
 
-// The first of two states.
-pub fn near_of(s: [[u8; 4]; 4]) -> [[u8; 4]; 4]
-    ensures { result ≡ sub_by near s }
-{
-    [
-        near_row(s[0]),
-        near_row(s[1]),
-        near_row(s[2]),
-        near_row(s[3]),
-    ]
-}
-
-// The second.
+// The second of two states.
 pub fn far_of(s: [[u8; 4]; 4]) -> [[u8; 4]; 4]
     ensures { result ≡ sub_by far s }
 {

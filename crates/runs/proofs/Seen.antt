@@ -7,7 +7,7 @@ use native.Mathlib.Omega.{arith}
 use lib.ListN.{get_or}
 use lib.Bits.{bit_xor, xor_zero_r}
 use Rattle.cells.specs.Cells.{Width, Nibble, Byte, LowCells, size, table4, untable4, sub, unsub}
-use Rattle.cells.specs.Words.{lane, not8, near, far, pair_of, sub_pair, unsub_pair, Each}
+use Rattle.cells.specs.Words.{lane, not8, near, far, pair_of, sub_pair, unsub_pair, sub_cells, unsub_cells, seen, Each}
 use Rattle.cells.proofs.Laws.{sub_law, unsub_law}
 use Rattle.cells.proofs.Xor.{xor_last}
 use Rattle.constants.specs.Constants.{constant_row}
@@ -17,7 +17,7 @@ use Rattle.rounds.specs.State.{State, cell, four, row, grid, sub_by, unround}
 use Rattle.rounds.specs.Words.{shown, linear_by, linear, unlinear, pair_row, paired}
 use Rattle.rounds.proofs.Views.{View, whole_view, near_view, far_view, view_row, linear_view, unlinear_view}
 use Rattle.runs.specs.Runs.{Ran, Unran}
-use Rattle.runs.proofs.Loops.{LowRows, Begun, begun_end, begun_more, Left, left_less, left_none, unround_linear}
+use Rattle.runs.proofs.Loops.{LowRows, Begun, begun_end, begun_more, Left, left_less, left_none, ran_as, unran_as, unround_linear}
 
 -- v is what is seen of a byte, f and g are what the code makes of a byte forward and back
 pub record Kind (w : Width) (v f g : ℕ → ℕ) : Type 0 where
@@ -73,17 +73,17 @@ far_forward : (b : ℕ) → far (sub_pair b) ≡ sub Nibble (far b)
 unfolding sub_pair
 far_forward b = far_pair (sub Nibble (near b)) (sub Nibble (far b)) ((sub_law Nibble).low (near b) (omega arith))
 
--- ---- four words by a function on each byte
+pub kind : (w : Width) → Kind w (seen w) (sub_cells w) (unsub_cells w)
+kind Nibble = nibbles
+kind Byte = bytes
 
--- the words x are what f makes of the words y
-pub record Worked (f : ℕ → ℕ) (y x : List ℕ) : Type 0 where
-  pub by : shown x ≡ sub_by f (shown y)
+-- ---- four words by a function on each byte
 
 pub worked
     : {f : ℕ → ℕ} {x₀ x₁ x₂ x₃ : ℕ} (y : List ℕ)
     → Each f (get_or y 0 0) x₀ → Each f (get_or y 1 0) x₁ → Each f (get_or y 2 0) x₂ → Each f (get_or y 3 0) x₃
-    → Worked f y (x₀ ∷ x₁ ∷ x₂ ∷ x₃ ∷ [])
-worked {f} {x₀} {x₁} {x₂} {x₃} y e₀ e₁ e₂ e₃ = record { by = λ i. four (line 0 e₀ i) (line 1 e₁ i) (line 2 e₂ i) (line 3 e₃ i) } where
+    → shown (x₀ ∷ x₁ ∷ x₂ ∷ x₃ ∷ []) ≡ sub_by f (shown y)
+worked {f} {x₀} {x₁} {x₂} {x₃} y e₀ e₁ e₂ e₃ = λ i. four (line 0 e₀ i) (line 1 e₁ i) (line 2 e₂ i) (line 3 e₃ i) where
   line : (k : ℕ) {x : ℕ} → Each f (get_or y k 0) x → row (λ j. not8 (lane x j)) ≡ row (λ j. f (not8 (lane (get_or y k 0) j)))
   line k {x} e = λ i. four (byte 0 (omega arith) i) (byte 1 (omega arith) i) (byte 2 (omega arith) i) (byte 3 (omega arith) i) where
     byte : (j : ℕ) → j < 4 → not8 (lane x j) ≡ f (not8 (lane (get_or y k 0) j))
@@ -105,42 +105,47 @@ module _ {w : Width} {v f g : ℕ → ℕ} (k : Kind w v f g) where
   unfolding unlinear
   unlinear_same t s low = unlinear_view k.view k.two t s ∙ ap (λ (r : List ℕ). unlinear r (sub_by v s)) (row_same t low)
 
-  -- a turn of a loop, forward: the linear part of a round, and the cells of the next one
-  module _ {m : ℕ} (keys : List (List ℕ)) (from i : ℕ) (x y : List ℕ) (h : from + i < m) (e : shown y ≡ linear (get_or keys (from + i) []) (shown x)) where
-    part : LowRows w m keys → sub_by v (shown y) ≡ linear (get_or keys (from + i) []) (sub_by v (shown x))
-    part low = ap (sub_by v) e ∙ linear_same (get_or keys (from + i) []) (shown x) (low (from + i) h)
+  -- a turn of a loop by the row r, which is that of round from + i
+  module _ {m : ℕ} (keys : List (List ℕ)) (from i r : ℕ) (q : r ≡ from + i) (h : from + i < m) (x : State) where
+    -- forward: the linear part of a round, and the cells of the next one
+    module _ (y : State) (e : y ≡ linear (get_or keys r []) x) where
+      part : LowRows w m keys → sub_by v y ≡ linear (get_or keys (from + i) []) (sub_by v x)
+      part low =
+          ap (sub_by v) (e ∙ ap (λ (l : ℕ). linear (get_or keys l []) x) q) ∙ linear_same (get_or keys (from + i) []) x (low (from + i) h)
 
-    pub turn_forward
-        : {x₀ : State} {z : List ℕ} → Begun w m keys from x₀ i (sub_by v (shown x)) → Worked f y z → Begun w m keys from x₀ (i + 1) (sub_by v (shown z))
-    turn_forward b d = begun_more h b part (ap (sub_by v) d.by ∙ λ j. grid (λ a b. k.forward (cell (shown y) a b) j))
+      pub turn_forward
+          : {x₀ z : State} → Begun w m keys from x₀ i (sub_by v x) → z ≡ sub_by f y → Begun w m keys from x₀ (i + 1) (sub_by v z)
+      turn_forward b d = begun_more h b part (ap (sub_by v) d ∙ λ j. grid (λ a b. k.forward (cell y a b) j))
 
-    -- behind the loop: x₀ came of s
-    pub end_forward
-        : {x₀ y₀ : List ℕ} → Worked f y₀ x₀ → Begun w m keys from (sub_by v (shown x₀)) i (sub_by v (shown x)) → (s : State)
-        → shown y₀ ≡ sub_by (λ b. b) s → Ran w m keys from (i + 1) s (sub_by v (shown y))
-    end_forward q b s p =
-        begun_end h b part s
-        (ap (sub_by v) (q.by ∙ ap (sub_by f) p) ∙ λ j. grid (λ a b. (k.forward (cell s a b) ∙ k.sub_seen (cell s a b)) j))
+      -- behind the loop: x₀ came of s
+      pub end_forward
+          : {x₀ y₀ u : State} {count : ℕ} → i + 1 ≡ count → x₀ ≡ sub_by f y₀ → Begun w m keys from (sub_by v x₀) i (sub_by v x) → (s : State)
+          → y₀ ≡ sub_by (λ b. b) s → u ≡ sub_by v y → Ran w m keys from count s u
+      end_forward n d b s p o =
+          ran_as
+          (begun_end h b part s (ap (sub_by v) (d ∙ ap (sub_by f) p) ∙ λ j. grid (λ a b. (k.forward (cell s a b) ∙ k.sub_seen (cell s a b)) j)))
+          n o
 
-  -- a turn of a loop, back, by the row r
-  pub turn_back
-      : {m : ℕ} {keys : List (List ℕ)} {from count i j : ℕ} {s : State} {z : List ℕ} (x y : List ℕ) (r : ℕ) → j ≡ suc i → r ≡ from + i → from + i < m
-      → Left w m keys from s count j (sub_by v (shown x)) → shown y ≡ unlinear (get_or keys r []) (shown x) → Worked g y z
-      → Left w m keys from s count i (sub_by v (shown z))
-  turn_back {keys = keys} {from = from} {i = i} x y r p q h l e d =
-      let t = get_or keys (from + i) [] in
-      let f = e ∙ ap (λ (k : ℕ). unlinear (get_or keys k []) (shown x)) q in
-      left_less p h l (λ low. ap (sub_by v) f ∙ unlinear_same t (shown x) (low (from + i) h))
-      (ap (sub_by v) d.by ∙ λ j. grid (λ a b. k.backward (cell (shown y) a b) j))
+    -- back
+    pub turn_back
+        : {count j : ℕ} {s y z : State} → j ≡ suc i → Left w m keys from s count j (sub_by v x) → y ≡ unlinear (get_or keys r []) x → z ≡ sub_by g y
+        → Left w m keys from s count i (sub_by v z)
+    turn_back {y = y} p l e d =
+        left_less p h l
+        (λ low. ap (sub_by v) (e ∙ ap (λ (l : ℕ). unlinear (get_or keys l []) x) q) ∙ unlinear_same (get_or keys (from + i) []) x (low (from + i) h))
+        (ap (sub_by v) d ∙ λ j. grid (λ a b. k.backward (cell y a b) j))
 
   pub end_back
-      : {m : ℕ} {keys : List (List ℕ)} {from count : ℕ} (x x₀ : List ℕ) → 0 < count → Left w m keys from (sub_by v (shown x₀)) count 0 (sub_by v (shown x))
-      → (s : State) → shown x₀ ≡ sub_by (λ b. b) s → Unran w m keys from count s (sub_by v (shown x))
-  end_back {count = count} x x₀ h l s e = left_none count h l s (λ q r p low.
+      : {m : ℕ} {keys : List (List ℕ)} {from count : ℕ} {x₀ u : State} (x : State) → 0 < count → Left w m keys from (sub_by v x₀) count 0 (sub_by v x)
+      → (s : State) → x₀ ≡ sub_by (λ b. b) s → u ≡ sub_by v x → Unran w m keys from count s u
+  end_back {count = count} x h l s e o =
+      unran_as
+      (left_none count h l s (λ q r p low.
       ap (λ (z : State). unround w q r (sub_by v z)) e ∙ unround_linear w q r (sub_by v s)
       ∙ ap (sub_by (unsub w)) (sym (unlinear_same (xor_row (constant_row q) r) s (row_low w q r p low)))
       ∙ (λ i. grid (λ a b. k.unsub_seen (cell (unlinear (xor_row (constant_row q) r) s) a b) i))
-      ∙ sym (unround_linear w q r s))
+      ∙ sym (unround_linear w q r s)))
+      o
 
 -- ---- two states of nibbles in one
 
@@ -181,34 +186,35 @@ module _ (t u : List ℕ) (p : LowCells Nibble t) (q : LowCells Nibble u) where
   far_linear = pair_linear far_view refl t u u far_cell
 
 -- both states after so many rounds, the second from `later` on
-pub record BothBegun (m : ℕ) (keys : List (List ℕ)) (from later : ℕ) (x₀ : List ℕ) (i : ℕ) (x : List ℕ) : Type 0 where
-  pub first : Begun Nibble m keys from (sub_by near (shown x₀)) i (sub_by near (shown x))
-  pub second : Begun Nibble m keys later (sub_by far (shown x₀)) i (sub_by far (shown x))
+pub record BothBegun (m : ℕ) (keys : List (List ℕ)) (from later : ℕ) (x₀ : State) (i : ℕ) (x : State) : Type 0 where
+  pub first : Begun Nibble m keys from (sub_by near x₀) i (sub_by near x)
+  pub second : Begun Nibble m keys later (sub_by far x₀) i (sub_by far x)
 
-module _ {m : ℕ} (keys : List (List ℕ)) (from later i : ℕ) (x y : List ℕ) (h : from + i < m) (l : later + i < m)
-    (e : LowCells Nibble (get_or keys (later + i) []) → shown y ≡ linear_by 34 (pair_row (get_or keys (from + i) []) (get_or keys (later + i) [])) (shown x)) where
-  first_part : LowRows Nibble m keys → sub_by near (shown y) ≡ linear (get_or keys (from + i) []) (sub_by near (shown x))
-  first_part low =
-      ap (sub_by near) (e (low (later + i) l))
-      ∙ near_linear (get_or keys (from + i) []) (get_or keys (later + i) []) (low (from + i) h) (low (later + i) l) (shown x)
+module _ {m : ℕ} (keys : List (List ℕ)) (from later i r q : ℕ) (p : r ≡ from + i) (o : q ≡ later + i) (h : from + i < m) (l : later + i < m) (x y : State)
+    (e : LowCells Nibble (get_or keys q []) → y ≡ linear_by 34 (pair_row (get_or keys r []) (get_or keys q [])) x) where
+  both_part
+      : LowRows Nibble m keys → (sub_by near y ≡ linear (get_or keys (from + i) []) (sub_by near x)) × (sub_by far y ≡ linear (get_or keys (later + i) []) (sub_by far x))
+  both_part low =
+      let t = get_or keys (from + i) [] in
+      let u = get_or keys (later + i) [] in
+      let a = low (from + i) h in
+      let b = low (later + i) l in
+      let d : y ≡ linear_by 34 (pair_row t u) x = rw (sym p, sym o) (e (rw o b)) in
+      (ap (sub_by near) d ∙ near_linear t u a b x, ap (sub_by far) d ∙ far_linear t u a b x)
 
-  second_part : LowRows Nibble m keys → sub_by far (shown y) ≡ linear (get_or keys (later + i) []) (sub_by far (shown x))
-  second_part low =
-      ap (sub_by far) (e (low (later + i) l))
-      ∙ far_linear (get_or keys (from + i) []) (get_or keys (later + i) []) (low (from + i) h) (low (later + i) l) (shown x)
-
-  pub turn_both
-      : {x₀ z : List ℕ} → BothBegun m keys from later x₀ i x → Worked sub_pair y z → BothBegun m keys from later x₀ (i + 1) z
+  pub turn_both : {x₀ z : State} → BothBegun m keys from later x₀ i x → z ≡ sub_by sub_pair y → BothBegun m keys from later x₀ (i + 1) z
   turn_both b d = record {
-    first = begun_more h b.first first_part (ap (sub_by near) d.by ∙ λ j. grid (λ a b. nibbles.forward (cell (shown y) a b) j));
-    second = begun_more l b.second second_part (ap (sub_by far) d.by ∙ λ j. grid (λ a b. far_forward (cell (shown y) a b) j));
+    first = begun_more h b.first (λ low. (both_part low).0) (ap (sub_by near) d ∙ λ j. grid (λ a b. nibbles.forward (cell y a b) j));
+    second = begun_more l b.second (λ low. (both_part low).1) (ap (sub_by far) d ∙ λ j. grid (λ a b. far_forward (cell y a b) j));
   }
 
   -- behind the loop: x₀ came of s and t
   pub end_both
-      : {x₀ y₀ : List ℕ} → Worked sub_pair y₀ x₀ → BothBegun m keys from later x₀ i x → (s t : State) → shown y₀ ≡ sub_by (λ b. b) (paired s t)
-      → Ran Nibble m keys from (i + 1) s (sub_by near (shown y)) × Ran Nibble m keys later (i + 1) t (sub_by far (shown y))
-  end_both q b s t p = (
-    begun_end h b.first first_part s (ap (sub_by near) (q.by ∙ ap (sub_by sub_pair) p) ∙ λ j. grid (λ a b. first_cell (cell s a b) (cell t a b) j)),
-    begun_end l b.second second_part t (ap (sub_by far) (q.by ∙ ap (sub_by sub_pair) p) ∙ λ j. grid (λ a b. second_cell (cell s a b) (cell t a b) j)),
+      : {x₀ y₀ u v : State} {count : ℕ} → i + 1 ≡ count → x₀ ≡ sub_by sub_pair y₀ → BothBegun m keys from later x₀ i x → (s t : State) → y₀ ≡ sub_by (λ b. b) (paired s t)
+      → u ≡ sub_by near y → v ≡ sub_by far y → Ran Nibble m keys from count s u × Ran Nibble m keys later count t v
+  end_both n d b s t c a z = (
+    ran_as (begun_end h b.first (λ low. (both_part low).0) s (ap (sub_by near) (d ∙ ap (sub_by sub_pair) c) ∙ λ j. grid (λ a b. first_cell (cell s a b) (cell t a b) j)))
+        n a,
+    ran_as (begun_end l b.second (λ low. (both_part low).1) t (ap (sub_by far) (d ∙ ap (sub_by sub_pair) c) ∙ λ j. grid (λ a b. second_cell (cell s a b) (cell t a b) j)))
+        n z,
   )

@@ -118,34 +118,25 @@ laid_on {w} {n} {t} {a} {b} {before} {keys} {keys'} s l = record {
   here : u.at ≡ t.at + a
   here = advance_at w n a t
 
--- u has gone on by turns of sixteen rounds; of a tweakey whose parts the share and the tweak are, the keys of the rounds to there are laid,
--- but for the first
-pub record Keys (w : Width) (n : Words) (share tweak : List ℕ) (before : List (List ℕ)) (u : Moving) (keys : List (List ℕ)) : Type 0 where
-  pub turns : ℕ
-  pub whole : u.at ≡ 16 * turns
-  pub most : turns ≤ 6
-  pub long : length keys ≡ length before
-  pub led : (t : Tweakey) → Parts w n t share tweak → Along w n (advance w n u.at t) share u × Laid w n t u.at before keys
+-- after i turns of sixteen rounds u has gone on by them; of a tweakey whose parts the share and the tweak are, the keys of the rounds to there
+-- are laid, but for the first
+pub record Keys (w : Width) (n : Words) (share tweak : List ℕ) (before : List (List ℕ)) (i : ℕ) (u : Moving) (keys : List (List ℕ)) : Type 0
+  where
+    pub on : u.at ≡ 16 * i
+    pub long : length keys ≡ length before
+    pub led : (t : Tweakey) → Parts w n t share tweak → Along w n (advance w n u.at t) share u × Laid w n t u.at before keys
 
 -- before the first turn
 pub keys_none
-    : (w : Width) (n : Words) (share tweak : List ℕ) (keys : List (List ℕ)) → Keys w n share tweak keys (record { cells = tweak; at = 0 }) keys
+    : (w : Width) (n : Words) (share tweak : List ℕ) (keys : List (List ℕ)) → Keys w n share tweak keys 0 (record { cells = tweak; at = 0 }) keys
 unfolding advance
-keys_none w n share tweak keys = record {
-  turns = 0;
-  whole = refl;
-  most = omega arith;
-  long = refl;
-  led = λ t p. (along_first p, laid_none);
-}
+keys_none w n share tweak keys = record { on = refl; long = refl; led = λ t p. (along_first p, laid_none) }
 
-module _ {w : Width} {n : Words} {share tweak : List ℕ} {before keys : List (List ℕ)} {u : Moving} (s : Keys w n share tweak before u keys) where
+module _ {w : Width} {n : Words} {share tweak : List ℕ} {before keys : List (List ℕ)} {i : ℕ} {u : Moving} (s : Keys w n share tweak before i u keys) where
   -- a turn
-  pub keys_more : {v : Moving} {keys' : List (List ℕ)} → u.at < 86 → Turn w n share u v keys keys' → Keys w n share tweak before v keys'
-  keys_more {v} {keys'} h e = record {
-    turns = s.turns + 1;
-    whole = omega (arith, s.whole, e.on);
-    most = omega (arith, s.whole);
+  pub keys_more : {v : Moving} {keys' : List (List ℕ)} → Turn w n share u v keys keys' → Keys w n share tweak before (i + 1) v keys'
+  keys_more {v} {keys'} e = record {
+    on = omega (arith, s.on, e.on);
     long = e.long ∙ s.long;
     led = λ t p.
         let (a, l) = s.led t p in

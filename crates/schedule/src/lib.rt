@@ -5,14 +5,18 @@
 // tweak's word, the tweakey's last, is stepped. The room for round keys is `constants::room`.
 #![tactic(auto)]
 
+pub mod tweaks;
+
 ghost use Rattle.std.specs.Prelude.{◌≡◌, ℕ, ◌+◌, ◌*◌, ◌<◌, ◌≤◌, map, length, get_or, replicate};
-ghost use Rattle.cells.specs.Cells.{Nibble, Byte, Two, Three, step2, step3};
 ghost use Rattle.constants.specs.Constants.{Room};
 ghost use Rattle.schedule.specs.declared.Tweakey.{Tweakey};
 ghost use Rattle.schedule.specs.Schedule.{xor_row, RoundKeys};
 ghost use Rattle.schedule.specs.Sixteen.{moved_once, moved, row_laid, pair_laid};
-ghost use Rattle.schedule.specs.Share.{Summed, Turn, Parts, LastChanged};
+ghost use Rattle.schedule.specs.Share.{tweak_step, Summed, Turn, Parts, LastChanged};
 ghost use Rattle.schedule.specs.Change.{cell_laid, CellOn};
+
+use cells::kinds::{Bytes, Nibbles};
+use tweaks::Tweaked;
 
 // The tweakey: room for three words of sixteen cells, one after the other, and the number of rounds that it has served.
 #[derive(Clone, Copy)]
@@ -30,41 +34,21 @@ pub struct Moving {
 
 // ---- sixteen rounds on
 
-// The tweak's cells of 64-192 stepped eight times where they stand; after each step, they and a row of the key's share, xored, are a row
-// of sums. (One loop over the cells with all steps inside: so the compiler works sixteen at once.)
-fn eight_steps_64_192(
+// The tweak's cells stepped eight times where they stand; after each step, they and a row of the key's share, xored, are a row of sums. (One
+// loop over the cells with all steps inside: so the compiler works sixteen at once.)
+fn eight_steps<K: Tweaked>(
     sums: &mut [[u8; 16]; 8],
     share: &[u8; 784],
     row: usize,
     t: [u8; 16],
 ) -> [u8; 16]
     requires { (row < 42) × (map length sums.old ≡ replicate 8 16) }
-    ensures { Summed (step3 Nibble) row share.now t result sums.new }
+    ensures { Summed (tweak_step K.width K.words) row share.now t result sums.new }
 {
     let mut c = t;
     for j in 0..16 {
         for k in 0..8 {
-            c[j] = cells::right_nibble(c[j]);
-            sums[k][j] = share[16 * (row + k) + j] ^ c[j];
-        }
-    }
-    c
-}
-
-// The same for 128-256.
-fn eight_steps_128_256(
-    sums: &mut [[u8; 16]; 8],
-    share: &[u8; 784],
-    row: usize,
-    t: [u8; 16],
-) -> [u8; 16]
-    requires { (row < 42) × (map length sums.old ≡ replicate 8 16) }
-    ensures { Summed (step2 Byte) row share.now t result sums.new }
-{
-    let mut c = t;
-    for j in 0..16 {
-        for k in 0..8 {
-            c[j] = cells::left_byte(c[j]);
+            c[j] = K::step(c[j]);
             sums[k][j] = share[16 * (row + k) + j] ^ c[j];
         }
     }
@@ -83,7 +67,8 @@ fn moved_once(s: [u8; 16]) -> [u8; 16]
     ]
 }
 
-// Where n times two rounds move them. (n is written out where it is asked for, so the compiler makes one move of n.)
+// Where n times two rounds move them. (n is written out where it is asked for, so the compiler makes one move of n. By way of m: the checker
+// covers no call whose result is laid over its argument.)
 fn moved_by(n: usize, s: [u8; 16]) -> [u8; 16]
     ensures { result ≡ moved n s }
 {
@@ -95,7 +80,8 @@ fn moved_by(n: usize, s: [u8; 16]) -> [u8; 16]
     r
 }
 
-// The keys of two rounds, the first at `at`: the lower half of s, then the upper one.
+// The keys of two rounds, the first at `at`: the lower half of s, then the upper one. (Each is stored as a row written out: so the compiler
+// moves its cells at once.)
 fn lay_pair(keys: &mut [[u8; 8]; 97], at: usize, s: [u8; 16])
     requires { at + 1 < 97 }
     ensures { keys.new ≡ pair_laid at s keys.old }
@@ -132,16 +118,15 @@ fn lay_two(keys: &mut [[u8; 8]; 97], at: usize, k: usize, sum: [u8; 16])
     lay_pair(keys, at + 2 * k + 1, moved_by(k + 1, sum));
 }
 
-// The tweak's cells of 64-192 go sixteen rounds on, and the keys of these rounds are laid. (Eight calls, here and not in a function for
-// both ciphers, and no loop: so the compiler knows each move and keeps the sums in registers.)
-fn sixteen_on_64_192(keys: &mut [[u8; 8]; 97], share: &[u8; 784], u: Moving) -> Moving
+// The tweak's cells go sixteen rounds on, and the keys of these rounds are laid. (Eight calls and no loop: so the compiler knows each move and
+// keeps the sums in registers.)
+fn sixteen_on<K: Tweaked>(keys: &mut [[u8; 8]; 97], share: &[u8; 784], u: Moving) -> Moving
     requires { (u.at < 81) × (length keys.old ≡ 97) }
-    ensures { Turn Nibble Three share.now u result keys.old keys.new }
+    ensures { Turn K.width K.words share.now u result keys.old keys.new }
 {
     let mut sums = [[0u8; 16]; 8];
     let at = u.at;
-    let c = u.cells;
-    let d = eight_steps_64_192(&mut sums, share, at / 2 + 1, c);
+    let cells = eight_steps::<K>(&mut sums, share, at / 2 + 1, u.cells);
     lay_two(keys, at, 0, sums[0]);
     lay_two(keys, at, 1, sums[1]);
     lay_two(keys, at, 2, sums[2]);
@@ -150,36 +135,10 @@ fn sixteen_on_64_192(keys: &mut [[u8; 8]; 97], share: &[u8; 784], u: Moving) -> 
     lay_two(keys, at, 5, sums[5]);
     lay_two(keys, at, 6, sums[6]);
     lay_two(keys, at, 7, sums[7]);
-    Moving {
-        cells: d,
-        at: at + 16,
-    }
+    Moving { cells, at: at + 16 }
 }
 
-// The tweak's cells of 128-256 go sixteen rounds on, and the keys of these rounds are laid.
-fn sixteen_on_128_256(keys: &mut [[u8; 8]; 97], share: &[u8; 784], u: Moving) -> Moving
-    requires { (u.at < 81) × (length keys.old ≡ 97) }
-    ensures { Turn Byte Two share.now u result keys.old keys.new }
-{
-    let mut sums = [[0u8; 16]; 8];
-    let at = u.at;
-    let c = u.cells;
-    let d = eight_steps_128_256(&mut sums, share, at / 2 + 1, c);
-    lay_two(keys, at, 0, sums[0]);
-    lay_two(keys, at, 1, sums[1]);
-    lay_two(keys, at, 2, sums[2]);
-    lay_two(keys, at, 3, sums[3]);
-    lay_two(keys, at, 4, sums[4]);
-    lay_two(keys, at, 5, sums[5]);
-    lay_two(keys, at, 6, sums[6]);
-    lay_two(keys, at, 7, sums[7]);
-    Moving {
-        cells: d,
-        at: at + 16,
-    }
-}
-
-// The key of the first round: the share's first row, and the tweak's cells.
+// The key of the first round: the share's first row, and the tweak's cells. (As a row written out, as in `lay_pair`.)
 fn lay_first(keys: &mut [[u8; 8]; 97], share: &[u8; 784], tweak: [u8; 16])
     ensures { keys.new ≡ row_laid 0 (xor_row share.now tweak) keys.old }
 {
@@ -196,34 +155,25 @@ fn lay_first(keys: &mut [[u8; 8]; 97], share: &[u8; 784], tweak: [u8; 16])
     ];
 }
 
-// The keys of the first m rounds of 64-192, and of fewer than sixteen more: from the key's share and the tweak's cells.
-pub fn lay_keys_64_192(keys: &mut [[u8; 8]; 97], m: usize, share: &[u8; 784], tweak: [u8; 16])
-    requires { (m ≤ 87) × Room keys.old }
-    ensures { (length keys.new ≡ 97) × ((t : Tweakey) → Parts Nibble Three t share.now tweak → RoundKeys Nibble Three m t keys.new) }
+// Turns of sixteen rounds behind the first round, enough for m rounds in all.
+fn turns_for(m: usize) -> usize
+    requires { m ≤ 87 }
+    ensures { (m ≤ 16 * result + 1) × (result ≤ 6) }
 {
-    let mut u = Moving {
-        cells: tweak,
-        at: 0,
-    };
-    while u.at + 1 < m {
-        let v = sixteen_on_64_192(keys, share, u);
-        u = v;
-    }
-    lay_first(keys, share, tweak);
+    (m + 14) / 16
 }
 
-// The keys of the first m rounds of 128-256, and of fewer than sixteen more: from the key's share and the tweak's cells.
-pub fn lay_keys_128_256(keys: &mut [[u8; 8]; 97], m: usize, share: &[u8; 784], tweak: [u8; 16])
+// The keys of the first m rounds, and of fewer than sixteen more: from the key's share and the tweak's cells.
+pub fn lay_keys<K: Tweaked>(keys: &mut [[u8; 8]; 97], m: usize, share: &[u8; 784], tweak: [u8; 16])
     requires { (m ≤ 87) × Room keys.old }
-    ensures { (length keys.new ≡ 97) × ((t : Tweakey) → Parts Byte Two t share.now tweak → RoundKeys Byte Two m t keys.new) }
+    ensures { (length keys.new ≡ 97) × ((t : Tweakey) → Parts K.width K.words t share.now tweak → RoundKeys K.width K.words m t keys.new) }
 {
     let mut u = Moving {
         cells: tweak,
         at: 0,
     };
-    while u.at + 1 < m {
-        let v = sixteen_on_128_256(keys, share, u);
-        u = v;
+    for _ in 0..turns_for(m) {
+        u = sixteen_on::<K>(keys, share, u);
     }
     lay_first(keys, share, tweak);
 }
@@ -235,60 +185,46 @@ fn lay_cell(keys: &mut [[u8; 8]; 97], i: usize, p: usize, x: u8)
     requires { (i < 97) × (p < 8) }
     ensures { keys.new ≡ cell_laid i p x keys.old }
 {
-    keys[i][p] = keys[i][p] ^ x;
+    keys[i][p] ^= x;
 }
 
-// Turn i of sixteen rounds of 64-192: the change x of a cell of the tweak goes on, and the keys of the odd rounds are corrected at its
-// places.
-fn cell_on_64_192(keys: &mut [[u8; 8]; 97], i: usize, places: [usize; 8], x: u8) -> u8
+// Turn i of sixteen rounds: the change x of a cell of the tweak goes on, and the keys of the odd rounds are corrected at its places.
+fn cell_on<K: Tweaked>(keys: &mut [[u8; 8]; 97], i: usize, places: [usize; 8], x: u8) -> u8
     requires { (i < 6) × (length keys.old ≡ 97) × ((k : ℕ) → k < 8 → get_or places k 0 < 8) }
-    ensures { CellOn (step3 Nibble) places i 8 x keys.old result keys.new }
+    ensures { CellOn (tweak_step K.width K.words) places i 8 x keys.old result keys.new }
 {
     let mut y = x;
     for k in 0..8 {
-        y = cells::right_nibble(y);
+        y = K::step(y);
         lay_cell(keys, 16 * i + 2 * k + 1, places[k], y);
     }
     y
 }
 
-// The same for 128-256.
-fn cell_on_128_256(keys: &mut [[u8; 8]; 97], i: usize, places: [usize; 8], x: u8) -> u8
-    requires { (i < 6) × (length keys.old ≡ 97) × ((k : ℕ) → k < 8 → get_or places k 0 < 8) }
-    ensures { CellOn (step2 Byte) places i 8 x keys.old result keys.new }
-{
-    let mut y = x;
-    for k in 0..8 {
-        y = cells::left_byte(y);
-        lay_cell(keys, 16 * i + 2 * k + 1, places[k], y);
-    }
-    y
+// The keys where the last byte of a tweak changes: a byte is one cell, or two nibbles.
+pub trait LastByte: Tweaked {
+    // The keys of the first m rounds, and of fewer than sixteen more, for a tweak whose last byte changed by d.
+    fn change_last(keys: &mut [[u8; 8]; 97], m: usize, d: u8)
+        requires { (m ≤ 87) × (length keys.old ≡ 97) }
+        ensures { (length keys.new ≡ 97) × ((t u : Tweakey) → LastChanged Self.width Self.words d t u → RoundKeys Self.width Self.words m t keys.old → RoundKeys Self.width Self.words m u keys.new) };
 }
 
-// The keys of the first m rounds of 64-192, and of fewer than sixteen more, for a tweak whose last byte changed by d.
-pub fn change_last_64_192(keys: &mut [[u8; 8]; 97], m: usize, d: u8)
-    requires { (m ≤ 87) × (length keys.old ≡ 97) }
-    ensures { (length keys.new ≡ 97) × ((t u : Tweakey) → LastChanged Nibble Three d t u → RoundKeys Nibble Three m t keys.old → RoundKeys Nibble Three m u keys.new) }
-{
-    let mut x = d / 16;
-    let mut y = d % 16;
-    let mut i: usize = 0;
-    while 16 * i + 1 < m {
-        x = cell_on_64_192(keys, i, [5, 3, 7, 1, 0, 2, 4, 6], x);
-        y = cell_on_64_192(keys, i, [1, 0, 2, 4, 6, 5, 3, 7], y);
-        i = i + 1;
+impl LastByte for Nibbles {
+    fn change_last(keys: &mut [[u8; 8]; 97], m: usize, d: u8) {
+        let mut x = d / 16;
+        let mut y = d % 16;
+        for i in 0..turns_for(m) {
+            x = cell_on::<Nibbles>(keys, i, [5, 3, 7, 1, 0, 2, 4, 6], x);
+            y = cell_on::<Nibbles>(keys, i, [1, 0, 2, 4, 6, 5, 3, 7], y);
+        }
     }
 }
 
-// The same for 128-256.
-pub fn change_last_128_256(keys: &mut [[u8; 8]; 97], m: usize, d: u8)
-    requires { (m ≤ 87) × (length keys.old ≡ 97) }
-    ensures { (length keys.new ≡ 97) × ((t u : Tweakey) → LastChanged Byte Two d t u → RoundKeys Byte Two m t keys.old → RoundKeys Byte Two m u keys.new) }
-{
-    let mut x = d;
-    let mut i: usize = 0;
-    while 16 * i + 1 < m {
-        x = cell_on_128_256(keys, i, [1, 0, 2, 4, 6, 5, 3, 7], x);
-        i = i + 1;
+impl LastByte for Bytes {
+    fn change_last(keys: &mut [[u8; 8]; 97], m: usize, d: u8) {
+        let mut x = d;
+        for i in 0..turns_for(m) {
+            x = cell_on::<Bytes>(keys, i, [1, 0, 2, 4, 6, 5, 3, 7], x);
+        }
     }
 }

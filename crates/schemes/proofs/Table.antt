@@ -9,69 +9,61 @@ use lib.ListN.{length}
 use Rattle.ciphers.specs.Ciphers.{block_of}
 use Rattle.states.specs.Modes.{tail_of}
 use Rattle.schemes.specs.declared.Scheme.{Scheme}
-use Rattle.schemes.specs.declared.Named.{Named}
-use Rattle.schemes.specs.declared.Named.TheVariants.{Known, Unknown}
+use Rattle.std.specs.Prelude.{Option, Some, None}
 use Rattle.schemes.specs.Schemes.{scheme1, scheme2, scheme3, scheme4, scheme5, scheme6, scheme7, table, row, scheme_of, Under, Fits}
 
 -- ---- what the numbers name
 
-pub named_1 : scheme_of 1 ≡ Known scheme1
+pub named_1 : scheme_of 1 ≡ Some scheme1
 unfolding scheme_of
 named_1 = refl
 
-pub named_2 : scheme_of 2 ≡ Known scheme2
+pub named_2 : scheme_of 2 ≡ Some scheme2
 unfolding scheme_of
 named_2 = refl
 
-pub named_3 : scheme_of 3 ≡ Known scheme3
+pub named_3 : scheme_of 3 ≡ Some scheme3
 unfolding scheme_of
 named_3 = refl
 
-pub named_4 : scheme_of 4 ≡ Known scheme4
+pub named_4 : scheme_of 4 ≡ Some scheme4
 unfolding scheme_of
 named_4 = refl
 
-pub named_5 : scheme_of 5 ≡ Known scheme5
+pub named_5 : scheme_of 5 ≡ Some scheme5
 unfolding scheme_of
 named_5 = refl
 
-pub named_6 : scheme_of 6 ≡ Known scheme6
+pub named_6 : scheme_of 6 ≡ Some scheme6
 unfolding scheme_of
 named_6 = refl
 
-pub named_7 : scheme_of 7 ≡ Known scheme7
+pub named_7 : scheme_of 7 ≡ Some scheme7
 unfolding scheme_of
 named_7 = refl
 
-known≢unknown : (s : Scheme) → Known s ≡ Unknown → ⊥
-known≢unknown s e = subst IsKnown e tt
-  where
-    IsKnown : Named → Type 0
-    IsKnown (Known s) = Unit
-    IsKnown Unknown = ⊥
-
 -- a row that is not there
-no_row : (rows : List Scheme) (i : ℕ) → (row rows i ≡ Unknown) ↔ (i < length rows → ⊥)
+no_row : (rows : List Scheme) (i : ℕ) → (row rows i ≡ None) ↔ (i < length rows → ⊥)
 no_row [] i = (λ _ l. omega arith, λ _. refl)
-no_row (s ∷ rows) zero = (λ e. absurd (known≢unknown s e), λ h. absurd (h (omega arith)))
+no_row (s ∷ rows) zero = (λ e. absurd (cc), λ h. absurd (h (omega arith)))
 no_row (s ∷ rows) (suc i) = let (to, from) = no_row rows i in (λ e l. to e (omega arith), λ h. from λ l. h (omega arith))
 
-pub unnamed : (number : ℕ) → (scheme_of number ≡ Unknown) ↔ (1 ≤ number → number ≤ 7 → ⊥)
+pub unnamed : (number : ℕ) → (scheme_of number ≡ None) ↔ (1 ≤ number → number ≤ 7 → ⊥)
 unfolding scheme_of
 unnamed zero = (λ _ l m. omega arith, λ _. refl)
 unnamed (suc i) =
     let (to, from) = no_row table i in (λ e l m. to e (omega arith), λ h. from λ l. h (omega arith) (omega arith))
 
-pub none_named : (number : ℕ) → (1 ≤ number → number ≤ 7 → ⊥) → scheme_of number ≡ Unknown
+pub none_named : (number : ℕ) → (1 ≤ number → number ≤ 7 → ⊥) → scheme_of number ≡ None
 none_named number = (unnamed number).1
 
 -- ---- what holds of each row holds of whatever a number names
 
 module _ (P : Scheme → Type 0) where
   -- of whatever is named, so that the number need not be looked at
-  abbrev NamedSo : Named → Type 0
-  NamedSo (Known s) = P s
-  NamedSo Unknown = Unit
+  abbrev NamedSo : Option Scheme → Type 0
+  NamedSo (Some s) = P s
+  NamedSo None = Unit
 
   abbrev RowsSo : List Scheme → Type 0
   RowsSo [] = Unit
@@ -88,13 +80,13 @@ module _ (P : Scheme → Type 0) where
   all_so (suc i) t = row_so table i t
 
   -- of the one that it does name
-  pub of_named : (number : ℕ) (s : Scheme) → scheme_of number ≡ Known s → Under number P → P s
+  pub of_named : (number : ℕ) (s : Scheme) → scheme_of number ≡ Some s → Under number P → P s
   of_named number s known u = subst NamedSo (sym u.1 ∙ known) u.2
 
-  pub each_named : RowsSo table → (number : ℕ) (s : Scheme) → scheme_of number ≡ Known s → P s
+  pub each_named : RowsSo table → (number : ℕ) (s : Scheme) → scheme_of number ≡ Some s → P s
   each_named rows number s e = subst NamedSo e (all_so number rows)
 
-pub named_fits : (number : ℕ) (s : Scheme) → scheme_of number ≡ Known s → Fits s
+pub named_fits : (number : ℕ) (s : Scheme) → scheme_of number ≡ Some s → Fits s
 named_fits =
     each_named Fits (
       fits scheme1 refl refl (omega arith) (omega arith),

@@ -1,7 +1,9 @@
 -- The checks, in their order: the first that applies answers with its number (01, What a caller is told; its 2 and 3 are parted by C-11, and
 -- 10 is C-14's). They look at lengths alone. Number 1, no such scheme, comes before them all; 6, not authentic, behind them. Assumes nothing.
-use Rattle.std.specs.Prelude.{◌≡◌, ℕ, ◌+◌, ◌-◌, ◌≤◌, Bool, true, false, not, cond, List, [], ◌∷◌, eqb, ltb}
+use Rattle.std.specs.Prelude.{◌≡◌, ℕ, ◌+◌, ◌-◌, ◌≤◌, Bool, true, false, not, cond, List, [], ◌∷◌, eqb, ltb, Result, Ok, Err}
 use Rattle.ciphers.specs.Ciphers.{block_of}
+use Rattle.refusals.specs.declared.Refusal.{Refusal}
+use Rattle.refusals.specs.Refusal.{number_of}
 use Rattle.states.specs.Modes.{takes_blank}
 use Rattle.schemes.specs.declared.Scheme.{Scheme}
 
@@ -35,6 +37,11 @@ checks s key nonce header body short more room =
 
 unfoldable pub check_of : Scheme → (key nonce header body : ℕ) (short : Bool) (more room : ℕ) → ℕ
 check_of s key nonce header body short more room = first (checks s key nonce header body short more room)
+
+-- the number that an answer says: 0 where it refuses nothing
+abbrev pub number_in : {T : Type 0} → Result T Refusal → ℕ
+number_in (Ok value) = 0
+number_in (Err refusal) = number_of refusal
 
 -- ---- of a call: `opens` is false for a seal, whose input is a body, and true for an open, whose input is a run
 

@@ -1,9 +1,8 @@
 -- The boundary figures of document 01 (What a caller is told; 3 and 8 parted by C-11, scheme 3's limit by C-12, schemes 4 to 7 by C-14), one
 -- table: the lengths that go into a call, and the number that its checks answer; 0 says that no check applies. Key and nonce have the
 -- scheme's lengths. Assumes nothing.
-use Rattle.std.specs.Prelude.{ℕ, ◌+◌, ◌-◌, Bool, true, false, List, [], ◌∷◌, ◌++◌}
-use Rattle.schemes.specs.declared.Named.{Named}
-use Rattle.schemes.specs.declared.Named.TheVariants.{Known, Unknown}
+use Rattle.std.specs.Prelude.{ℕ, ◌+◌, ◌-◌, Bool, true, false, List, [], ◌∷◌, ◌++◌, Option, Some, None}
+use Rattle.schemes.specs.declared.Scheme.{Scheme}
 use Rattle.schemes.specs.Checks.{checked}
 use Rattle.schemes.specs.Schemes.{scheme_of}
 
@@ -108,9 +107,9 @@ figures =
 -- ---- its two sides
 
 -- the number by the checks, with a key and a nonce of the scheme's lengths; 1 where none is named
-abbrev number_by : Named → Figure → ℕ
-number_by (Known s) f = checked f.opens s s.key s.nonce f.header f.input f.room
-number_by Unknown f = 1
+abbrev number_by : Option Scheme → Figure → ℕ
+number_by (Some s) f = checked f.opens s s.key s.nonce f.header f.input f.room
+number_by None f = 1
 
 abbrev pub all_answered : List Figure → List ℕ
 all_answered [] = []

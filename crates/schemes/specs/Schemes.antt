@@ -1,12 +1,10 @@
 -- The schemes: their ciphers, modes, sizes and limits (01, the desk's document 01, the table of schemes; C-14). Assumes nothing.
-use Rattle.std.specs.Prelude.{◌≡◌, List, [], ◌∷◌, ℕ, zero, suc, ◌+◌, ◌≤◌}
+use Rattle.std.specs.Prelude.{◌≡◌, List, [], ◌∷◌, ℕ, zero, suc, ◌+◌, ◌≤◌, Option, Some, None}
 use Rattle.ciphers.specs.declared.Cipher.TheVariants.{N64T192, N128T256}
 use Rattle.ciphers.specs.Ciphers.{block_of}
 use Rattle.states.specs.declared.Kind.TheVariants.{Paef, Saef, Umbreon, Jolteon}
 use Rattle.states.specs.Modes.{tail_of}
 use Rattle.schemes.specs.declared.Scheme.{Scheme}
-use Rattle.schemes.specs.declared.Named.{Named}
-use Rattle.schemes.specs.declared.Named.TheVariants.{Known, Unknown}
 
 -- PAEF numbers blocks in thirteen bits: a header and a body have at most 8,191 of them (01, What a caller is told, 3)
 abbrev pub scheme1 : Scheme
@@ -45,19 +43,19 @@ table =
     ∷ scheme7
     ∷ []
 
-abbrev pub row : List Scheme → ℕ → Named
-row [] i = Unknown
-row (s ∷ rows) zero = Known s
+abbrev pub row : List Scheme → ℕ → Option Scheme
+row [] i = None
+row (s ∷ rows) zero = Some s
 row (s ∷ rows) (suc i) = row rows i
 
 -- the scheme that a number names
-unfoldable pub scheme_of : ℕ → Named
-scheme_of zero = Unknown
+unfoldable pub scheme_of : ℕ → Option Scheme
+scheme_of zero = None
 scheme_of (suc i) = row table i
 
 -- a number names a scheme, of which this holds
 abbrev pub Under : ℕ → (Scheme → Type 0) → Type 0
-Under number P = (s : Scheme) × (scheme_of number ≡ Known s) × P s
+Under number P = (s : Scheme) × (scheme_of number ≡ Some s) × P s
 
 -- what the walks ask of a scheme: a key of sixteen bytes, a nonce that fills the tweak, limits within which the rounds are a number of 32 bits
 pub record Fits (s : Scheme) : Type 0 where

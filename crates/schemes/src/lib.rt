@@ -4,7 +4,6 @@
 pub mod checks;
 
 ghost use Rattle.std.specs.Prelude.{◌≡◌};
-ghost use Rattle.schemes.specs.declared.Named.TheVariants.{Known};
 ghost use Rattle.schemes.specs.Schemes.{scheme_of};
 
 use ciphers::Cipher;
@@ -21,50 +20,28 @@ pub struct Scheme {
     pub body: usize,
 }
 
-// What a number names.
-#[derive(Clone, Copy)]
-pub enum Named {
-    Known(Scheme),
-    Unknown,
-}
-
-// A row of the table: cipher, mode, bytes of the nonce, and the most bytes of a header and of a body. A key has 16 bytes under each.
-fn row_of(cipher: Cipher, kind: Kind, nonce: usize, header: usize, body: usize) -> Named
-    ensures { result ≡ Known (record { cipher = cipher; kind = kind; key = 16; nonce = nonce; header = header; body = body }) }
+// The scheme that a number names.
+#[tactic(auto, unfolding(crate::specs::Schemes::scheme_of))]
+pub fn scheme_of(number: u32) -> Option<Scheme>
+    ensures { result ≡ scheme_of number }
 {
-    Named::Known(Scheme {
+    // A row: cipher, mode, bytes of the nonce, and the most bytes of a header and of a body.
+    let (cipher, kind, nonce, header, body) = match number {
+        1 => (Cipher::N64T192, Kind::Paef, 6, 65528, 65528),
+        2 => (Cipher::N128T256, Kind::Paef, 14, 131056, 131056),
+        3 => (Cipher::N128T256, Kind::Saef, 15, 1048576, 1048576),
+        4 => (Cipher::N64T192, Kind::Umbreon, 6, 131040, 262136),
+        5 => (Cipher::N64T192, Kind::Jolteon, 6, 131040, 262136),
+        6 => (Cipher::N128T256, Kind::Umbreon, 14, 262080, 524272),
+        7 => (Cipher::N128T256, Kind::Jolteon, 14, 262080, 524272),
+        _ => return None,
+    };
+    Some(Scheme {
         cipher,
         kind,
-        key: 16,
+        key: 16, // under each
         nonce,
         header,
         body,
     })
-}
-
-pub fn scheme_of(number: u32) -> Named
-    ensures { result ≡ scheme_of number }
-{
-    if number == 1 {
-        return row_of(Cipher::N64T192, Kind::Paef, 6, 65528, 65528);
-    }
-    if number == 2 {
-        return row_of(Cipher::N128T256, Kind::Paef, 14, 131056, 131056);
-    }
-    if number == 3 {
-        return row_of(Cipher::N128T256, Kind::Saef, 15, 1048576, 1048576);
-    }
-    if number == 4 {
-        return row_of(Cipher::N64T192, Kind::Umbreon, 6, 131040, 262136);
-    }
-    if number == 5 {
-        return row_of(Cipher::N64T192, Kind::Jolteon, 6, 131040, 262136);
-    }
-    if number == 6 {
-        return row_of(Cipher::N128T256, Kind::Umbreon, 14, 262080, 524272);
-    }
-    if number == 7 {
-        return row_of(Cipher::N128T256, Kind::Jolteon, 14, 262080, 524272);
-    }
-    Named::Unknown
 }

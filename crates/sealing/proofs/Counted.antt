@@ -14,7 +14,7 @@ use Rattle.modes.specs.Rounds.{blocks, head_blocks, rounds_by}
 use Rattle.modes.proofs.Rounds.{flat}
 use Rattle.states.specs.Modes.{takes_blank, prices_of, rounds_of}
 use Rattle.schemes.specs.declared.Scheme.{Scheme}
-use Rattle.schemes.specs.declared.Named.TheVariants.{Known}
+use Rattle.std.specs.Prelude.{Some}
 use Rattle.schemes.specs.Schemes.{scheme_of, Under}
 use Rattle.schemes.specs.Checks.{blank, body_in, checked}
 use Rattle.schemes.proofs.Passed.{check_long, check_passed}
@@ -41,7 +41,7 @@ module _ (scheme : ℕ) (key nonce header input room : List ℕ) where
 
   -- ---- under a scheme
 
-  module _ (s : Scheme) (known : scheme_of scheme ≡ Known s) where
+  module _ (s : Scheme) (known : scheme_of scheme ≡ Some s) where
     pub seal_told : check false s ≡ 0 → (told false).rounds ≡ seal_rounds s key nonce header input
     unfolding seal_under
     seal_told c = ap (λ (t : Told). t.rounds) (seal_known scheme s known key nonce header input room ∙ all_passed _ _ room c)
@@ -70,7 +70,7 @@ pub same_rounds : (scheme : ℕ) (opens opens' : Bool) (key nonce header input r
     → Worked (answered opens scheme key nonce header input room).number
     → Worked (answered opens' scheme key' nonce' header' input' room').number
     → length header ≡ length header'
-    → ((s : Scheme) → scheme_of scheme ≡ Known s → body_in opens s (length input) ≡ body_in opens' s (length input'))
+    → ((s : Scheme) → scheme_of scheme ≡ Some s → body_in opens s (length input) ≡ body_in opens' s (length input'))
     → (answered opens scheme key nonce header input room).rounds ≡ (answered opens' scheme key' nonce' header' input' room').rounds
 same_rounds scheme opens opens' key nonce header input room key' nonce' header' input' room' w w' h b =
     let (s, known, r) = worked_rounds scheme key nonce header input room opens w in
@@ -86,7 +86,7 @@ heads false true true x y e n = absurd (true≢false n)
 heads false true false x y e n = refl
 heads false false h x y e n = refl
 
-pub by_lengths : (scheme : ℕ) (s : Scheme) → scheme_of scheme ≡ Known s → takes_blank s.kind ≡ false → (key nonce header input room : List ℕ) (opens : Bool)
+pub by_lengths : (scheme : ℕ) (s : Scheme) → scheme_of scheme ≡ Some s → takes_blank s.kind ≡ false → (key nonce header input room : List ℕ) (opens : Bool)
     → Worked (answered opens scheme key nonce header input room).number
     → let n = block_of s.cipher in
     let p = prices_of s.kind s.cipher in

@@ -18,7 +18,8 @@ use Rattle.modes.specs.Paef.{paef}
 use Rattle.modes.specs.Saef.{saef}
 use Rattle.states.specs.Skinny.{skinny}
 use Rattle.schemes.specs.declared.Scheme.{Scheme}
-use Rattle.schemes.specs.declared.Named.TheVariants.{Known}
+use Rattle.std.specs.Prelude.{Some, Result}
+use Rattle.refusals.specs.declared.Refusal.{Refusal}
 use Rattle.schemes.specs.Schemes.{scheme1, scheme2, scheme3, scheme_of}
 use Rattle.schemes.specs.Checks.{blank, seal_check, open_check}
 use Rattle.views.specs.View.{view_of}
@@ -55,7 +56,7 @@ open_refused scheme key nonce header run room =
     (λ r l out h j. absurd (h refl)) (λ r l h j. absurd (j refl)) (λ k p h j. refl)
 
 -- 6 leaves zeros where a body would have been, and the rest unchanged
-pub open_forged : (scheme : ℕ) (s : Scheme) (key nonce header run room : List ℕ) → scheme_of scheme ≡ Known s
+pub open_forged : (scheme : ℕ) (s : Scheme) (key nonce header run room : List ℕ) → scheme_of scheme ≡ Some s
     → (open_of scheme key nonce header run room).number ≡ 6
     → open_of scheme key nonce header run room ≡ forged (open_rounds s key nonce header run) (length run - block_of s.cipher) room
 open_forged scheme s key nonce header run room known =
@@ -69,7 +70,7 @@ unknown scheme key nonce header input room h = (rw (none_named scheme h), rw (no
 
 -- under a scheme, the first check that applies answers with its number, before anything else is looked at; where none does, a seal is
 -- done and an open judged
-module _ (scheme : ℕ) (s : Scheme) (key nonce header input room : List ℕ) (known : scheme_of scheme ≡ Known s) where
+module _ (scheme : ℕ) (s : Scheme) (key nonce header input room : List ℕ) (known : scheme_of scheme ≡ Some s) where
   pub seal_order : let k = seal_check s (length key) (length nonce) (length header) (length input) (length room) in
       (k ≡ 0 → ⊥) → seal_of scheme key nonce header input room ≡ refused k room
   unfolding seal_under
@@ -93,11 +94,11 @@ module _ (scheme : ℕ) (s : Scheme) (key nonce header input room : List ℕ) (k
   open_judged e = open_known scheme s known key nonce header input room ∙ all_passed _ _ room e
 
 -- any two results that a contract allows are one
-pub same_seal : (scheme : ℕ) (key nonce header body room : List ℕ) (a b : Answer) (r q : List ℕ)
+pub same_seal : (scheme : ℕ) (key nonce header body room : List ℕ) (a b : Result Answer Refusal) (r q : List ℕ)
     → told a r ≡ seal_of scheme key nonce header body room → told b q ≡ seal_of scheme key nonce header body room → (a ≡ b) × (r ≡ q)
 same_seal scheme key nonce header body room a b r q = told_same a b r q (seal_of scheme key nonce header body room)
 
-pub same_open : (scheme : ℕ) (key nonce header run room : List ℕ) (a b : Answer) (r q : List ℕ)
+pub same_open : (scheme : ℕ) (key nonce header run room : List ℕ) (a b : Result Answer Refusal) (r q : List ℕ)
     → told a r ≡ open_of scheme key nonce header run room → told b q ≡ open_of scheme key nonce header run room → (a ≡ b) × (r ≡ q)
 same_open scheme key nonce header run room a b r q = told_same a b r q (open_of scheme key nonce header run room)
 

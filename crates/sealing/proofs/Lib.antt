@@ -6,6 +6,7 @@ pub mod Changes
 mod Counted
 pub mod Demands
 pub mod Exactly
+mod Keys
 mod Known
 pub mod Meters
 mod Moved

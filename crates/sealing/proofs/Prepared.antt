@@ -16,43 +16,43 @@ use Rattle.prepared.specs.declared.Prepared.{Prepared}
 use Rattle.prepared.specs.Prepared.{prepared_of, key_of, admitted}
 use Rattle.prepared.proofs.Found.{key_back}
 use Rattle.prepared.proofs.Admitted.{all_admitted, key_of_lem}
+use Rattle.std.specs.Prelude.{Result}
+use Rattle.refusals.specs.declared.Refusal.{Refusal}
 use Rattle.forkskinny.specs.declared.Forked.{Forked}
 use Rattle.forkskinny.specs.declared.Unforked.{Unforked}
-use Rattle.forkskinny.specs.Calls.{fork_by, unfork_by, fork_refused_with, unfork_refused_with, fork_of, unfork_of, fork_with, unfork_with}
+use Rattle.forkskinny.proofs.Told.{fork_named, unfork_named}
+use Rattle.forkskinny.specs.Calls.{fork_told, unfork_told, fork_by, unfork_by, fork_refused_with, unfork_refused_with, fork_of, unfork_of, fork_with, unfork_with}
 use Rattle.schemes.specs.declared.Scheme.{Scheme}
-use Rattle.schemes.specs.declared.Named.{Named}
-use Rattle.schemes.specs.declared.Named.TheVariants.{Known}
+use Rattle.std.specs.Prelude.{Some}
 use Rattle.schemes.specs.Schemes.{scheme_of}
 use Rattle.schemes.proofs.Table.{named_fits}
-use Rattle.sealing.specs.Calls.{Told, refused, under, seal_under, open_under, seal_of, open_of, seal_with, open_with}
-use Rattle.sealing.proofs.Answers.{seal_no_key, open_no_key, no_record_lem}
+use Rattle.sealing.specs.Calls.{Told, refused, seal_under, open_under, seal_of, open_of, seal_with, open_with}
+use Rattle.sealing.specs.Keys.{seal_no_key, open_no_key}
+use Rattle.sealing.proofs.Keys.{no_record_lem}
+use Rattle.sealing.proofs.Known.{known_under, seal_known, open_known}
 
 -- ---- seal and open: number, length, room and rounds are those of the key
 
-module _ (number : ℕ) (s : Scheme) (named : scheme_of number ≡ Known s) (nonce header input room : List ℕ) where
-  sealing : (key : List ℕ) → under (scheme_of number) (λ (s : Scheme). seal_under s key nonce header input room) room ≡ seal_under s key nonce header input room
-  sealing key = ap (λ (m : Named). under m (λ (s : Scheme). seal_under s key nonce header input room) room) named
-
+module _ (number : ℕ) (s : Scheme) (named : scheme_of number ≡ Some s) (nonce header input room : List ℕ) where
   sealing_with : (r : Prepared) → seal_with number r nonce header input room ≡ seal_under s (key_of s.cipher r) nonce header input room
   unfolding seal_with
-  sealing_with r = ap (λ (m : Named). under m (λ (s : Scheme). seal_under s (key_of s.cipher r) nonce header input room) room) named
-
-  opening : (key : List ℕ) → under (scheme_of number) (λ (s : Scheme). open_under s key nonce header input room) room ≡ open_under s key nonce header input room
-  opening key = ap (λ (m : Named). under m (λ (s : Scheme). open_under s key nonce header input room) room) named
+  sealing_with r = known_under (λ s. seal_under s (key_of s.cipher r) nonce header input room) room named
 
   opening_with : (r : Prepared) → open_with number r nonce header input room ≡ open_under s (key_of s.cipher r) nonce header input room
   unfolding open_with
-  opening_with r = ap (λ (m : Named). under m (λ (s : Scheme). open_under s (key_of s.cipher r) nonce header input room) room) named
+  opening_with r = known_under (λ s. open_under s (key_of s.cipher r) nonce header input room) room named
 
   pub seals_as_key : (key : List ℕ) → Block 16 key → seal_with number (prepared_of s.cipher key) nonce header input room ≡ seal_of number key nonce header input room
-  unfolding seal_of
   seals_as_key key b =
-      sealing_with (prepared_of s.cipher key) ∙ ap (λ (k : List ℕ). seal_under s k nonce header input room) (key_of_lem s.cipher key b) ∙ sym (sealing key)
+      sealing_with (prepared_of s.cipher key)
+      ∙ ap (λ (k : List ℕ). seal_under s k nonce header input room) (key_of_lem s.cipher key b)
+      ∙ sym (seal_known number s named key nonce header input room)
 
   pub opens_as_key : (key : List ℕ) → Block 16 key → open_with number (prepared_of s.cipher key) nonce header input room ≡ open_of number key nonce header input room
-  unfolding open_of
   opens_as_key key b =
-      opening_with (prepared_of s.cipher key) ∙ ap (λ (k : List ℕ). open_under s k nonce header input room) (key_of_lem s.cipher key b) ∙ sym (opening key)
+      opening_with (prepared_of s.cipher key)
+      ∙ ap (λ (k : List ℕ). open_under s k nonce header input room) (key_of_lem s.cipher key b)
+      ∙ sym (open_known number s named key nonce header input room)
 
   -- a record that is not admitted: 2, whatever else is wrong
   pub seals_not : (r : Prepared) → admitted s.cipher r ≡ false → seal_with number r nonce header input room ≡ refused 2 room
@@ -113,9 +113,10 @@ module _ (number : ℕ) (r : Prepared) where
   pub same_open_with : (nonce header run room : List ℕ) (a b : Told) → a ≡ open_with number r nonce header run room → b ≡ open_with number r nonce header run room → a ≡ b
   same_open_with nonce header run room a b p q = p ∙ sym q
 
-  pub same_fork_with : (tweak block : List ℕ) (want : ℕ) (a b : Forked) → a ≡ fork_with number r tweak block want → b ≡ fork_with number r tweak block want → a ≡ b
-  same_fork_with tweak block want a b p q = p ∙ sym q
+  pub same_fork_with : (tweak block : List ℕ) (want : ℕ) (a b : Result Forked Refusal)
+      → fork_told a ≡ fork_with number r tweak block want → fork_told b ≡ fork_with number r tweak block want → a ≡ b
+  same_fork_with tweak block want a b p q = fork_named a b (p ∙ sym q)
 
-  pub same_unfork_with : (tweak block : List ℕ) (from want : ℕ) (a b : Unforked)
-      → a ≡ unfork_with number r tweak block from want → b ≡ unfork_with number r tweak block from want → a ≡ b
-  same_unfork_with tweak block from want a b p q = p ∙ sym q
+  pub same_unfork_with : (tweak block : List ℕ) (from want : ℕ) (a b : Result Unforked Refusal)
+      → unfork_told a ≡ unfork_with number r tweak block from want → unfork_told b ≡ unfork_with number r tweak block from want → a ≡ b
+  same_unfork_with tweak block from want a b p q = unfork_named a b (p ∙ sym q)

@@ -6,7 +6,8 @@ use Prim.Native.Nat.{ℕ, ◌+◌, ◌-◌, ◌*◌, ◌≤◌, ◌<◌}
 use native.Mathlib.Omega.{arith}
 use mathlib.Core.Logic.Iff
 use mathlib.Core.Logic.{◌↔◌, inl, inr}
-use mathlib.Core.Bool.{Bool, true, false}
+use mathlib.Core.Bool.{Bool, true, false, cond}
+use lib.Dec.{eqb}
 use mathlib.Core.List.{List}
 use lib.ListN.{length}
 use Rattle.ciphers.specs.Ciphers.{block_of}
@@ -17,16 +18,19 @@ use Rattle.modes.proofs.Rounds.{rounds_flat}
 use Rattle.states.specs.Modes.{mode_of, takes_blank, rounds_of}
 use Rattle.states.specs.Skinny.{cost_of}
 use Rattle.schemes.specs.declared.Scheme.{Scheme}
-use Rattle.schemes.specs.declared.Named.TheVariants.{Known}
+use Rattle.std.specs.Prelude.{Some, Result, Ok, Err}
+use Rattle.refusals.specs.declared.Refusal.{Refusal}
+use Rattle.refusals.specs.Refusal.{number_of}
+use Rattle.refusals.proofs.Back.{refusal_of, refusal_back, number_not_0}
 use Rattle.schemes.specs.Checks.{body_in, blank, check_of}
 use Rattle.schemes.specs.Schemes.{Under, scheme1, scheme2, scheme3, scheme_of}
 use Rattle.schemes.proofs.Passed.{blank_is, check_3, check_8, check_10, check_passed, check_pass}
 use Rattle.schemes.proofs.Table.{named_1, named_2, named_3, unnamed, of_named}
-use Rattle.sealing.specs.declared.Budget.{Budget}
-use Rattle.sealing.specs.Budget.{budget_under, budget_of}
+use Rattle.sealing.specs.Budget.{Budget, counted, budget_under, budget_of}
 use Rattle.sealing.specs.Calls.{Told, seal_of, open_of}
 use Rattle.sealing.specs.Numbers.{answered, Worked}
 use Rattle.sealing.specs.RoundFigures.{block_figures, blocks_told, blocks_stated, record_figures, records_told, records_stated}
+use Rattle.sealing.proofs.Answers.{number_some}
 use Rattle.sealing.proofs.Budgets.{budget_says, budget_unknown, budget_none, budget_fits, worked_budget}
 use Rattle.sealing.proofs.Counted.{worked_check, worked_rounds, seal_told, open_told, same_rounds}
 use Rattle.sealing.proofs.Ways.{seal_ways, open_ways}
@@ -39,7 +43,7 @@ block_figures_lem key tweak block = refl
 
 -- ---- seal and open: the sum over the published rule's list of block calls
 
-module _ (scheme : ℕ) (s : Scheme) (key nonce header : List ℕ) (known : scheme_of scheme ≡ Known s) where
+module _ (scheme : ℕ) (s : Scheme) (key nonce header : List ℕ) (known : scheme_of scheme ≡ Some s) where
   pub seal_sums : (body room : List ℕ) → (seal_of scheme key nonce header body room).number ≡ 0
       → (seal_of scheme key nonce header body room).rounds
       ≡ total (cost_of s.cipher) (seal_calls (block_of s.cipher) (mode_of s.kind s.cipher key nonce) header body)
@@ -94,7 +98,7 @@ module _ (key nonce header : List ℕ) where
 
 -- ---- opening costs what sealing costs, also where it ends with 6
 
-pub open_as_seal : (scheme : ℕ) (s : Scheme) (key nonce header body room key' nonce' header' run room' : List ℕ) → scheme_of scheme ≡ Known s
+pub open_as_seal : (scheme : ℕ) (s : Scheme) (key nonce header body room key' nonce' header' run room' : List ℕ) → scheme_of scheme ≡ Some s
     → length header ≡ length header' → length run ≡ length body + block_of s.cipher
     → (seal_of scheme key nonce header body room).number ≡ 0 → Worked (open_of scheme key' nonce' header' run room').number
     → (open_of scheme key' nonce' header' run room').rounds ≡ (seal_of scheme key nonce header body room).rounds
@@ -138,10 +142,18 @@ module _ (scheme : ℕ) (key nonce header : List ℕ) where
       let (s, known, _) = worked_check scheme key nonce header body room false (inl e) in
       worked_budget false scheme s key nonce header body room known (inl e)
 
-  pub budget_open : (s : Scheme) (run room : List ℕ) → scheme_of scheme ≡ Known s → Worked (open_of scheme key nonce header run room).number
+  pub budget_open : (s : Scheme) (run room : List ℕ) → scheme_of scheme ≡ Some s → Worked (open_of scheme key nonce header run room).number
       → budget_of scheme (length header) (length run - block_of s.cipher)
       ≡ record { number = 0; rounds = (open_of scheme key nonce header run room).rounds }
   budget_open s run room known w = worked_budget true scheme s key nonce header run room known w
+
+-- what is told names the result
+abbrev result_of : Budget → Result ℕ Refusal
+result_of t = cond (eqb t.number 0) (Ok t.rounds) (Err (refusal_of t.number t.rounds))
+
+counted_back : (a : Result ℕ Refusal) → result_of (counted a) ≡ a
+counted_back (Ok rounds) = refl
+counted_back (Err r) = rw (number_not_0 r) (ap Err (refusal_back r))
 
 -- it refuses as the checks do: 1 for an unknown scheme, 3 for the header, 8 for the body, 10 for both empty under a mode that has no run for them
 module _ (scheme header body : ℕ) where
@@ -190,13 +202,19 @@ module _ (scheme header body : ℕ) where
   pub budget_refused : ((budget_of scheme header body).number ≡ 0 → ⊥) → (budget_of scheme header body).rounds ≡ 0
   budget_refused = budget_none scheme header body
 
+  pub refused_budget : (r : Refusal) → counted (Err r) ≡ budget_of scheme header body
+      → record { number = number_of r; rounds = 0 } ≡ budget_of scheme header body
+  refused_budget r e =
+      let none = ap (λ (b : Budget). b.rounds) e ∙ budget_refused (λ z. number_some r (ap (λ (b : Budget). b.number) e ∙ z)) in
+      (λ i. record { number = number_of r; rounds = sym none i }) ∙ e
+
   -- they never overflow 32 bits
   pub budget_32 : (budget_of scheme header body).rounds < 4294967296
   budget_32 = budget_fits scheme header body
 
   -- any two results that its contract allows are one
-  pub same_budget : (a b : Budget) → a ≡ budget_of scheme header body → b ≡ budget_of scheme header body → a ≡ b
-  same_budget a b p q = p ∙ sym q
+  pub same_budget : (a b : Result ℕ Refusal) → counted a ≡ budget_of scheme header body → counted b ≡ budget_of scheme header body → a ≡ b
+  same_budget a b p q = sym (counted_back a) ∙ ap result_of (p ∙ sym q) ∙ counted_back b
 
 -- some records, from the empty one to the longest, and the refusals beside them: the whole table, computed
 pub record_figures_lem : records_told record_figures ≡ records_stated record_figures

@@ -17,8 +17,7 @@ use borrow.Author.Tests.{eqb-false, ltb-true, ltb-false, lt-ltb, le-ltb, not-tru
 use Rattle.ciphers.specs.Ciphers.{block_of}
 use Rattle.cells.proofs.Choice.{either}
 use Rattle.schemes.specs.declared.Scheme.{Scheme}
-use Rattle.schemes.specs.declared.Named.{Named}
-use Rattle.schemes.specs.declared.Named.TheVariants.{Known, Unknown}
+use Rattle.std.specs.Prelude.{Option, Some, None}
 use Rattle.schemes.specs.Schemes.{scheme_of, Under}
 use Rattle.schemes.specs.Checks.{body_in, short_in, more_in, checked}
 use Rattle.schemes.proofs.Passed.{check_never}
@@ -59,20 +58,20 @@ judged_number false r l out room = refl
 -- ---- under what a number names
 
 -- `number` is what is told under it, and 1 where it is no scheme
-module _ (number : Named → ℕ) (one : number Unknown ≡ 1) (m : Named) where
-  pub under_says : (k : ℕ) → (1 ≡ k → ⊥) → (number m ≡ k) ↔ ((s : Scheme) × (m ≡ Known s) × (number (Known s) ≡ k))
-  under_says k h = (to m, λ t. subst (λ (m : Named). number m ≡ k) (sym t.1) t.2)
+module _ (number : Option Scheme → ℕ) (one : number None ≡ 1) (m : Option Scheme) where
+  pub under_says : (k : ℕ) → (1 ≡ k → ⊥) → (number m ≡ k) ↔ ((s : Scheme) × (m ≡ Some s) × (number (Some s) ≡ k))
+  under_says k h = (to m, λ t. subst (λ (m : Option Scheme). number m ≡ k) (sym t.1) t.2)
     where
-      to : (m : Named) → number m ≡ k → (s : Scheme) × (m ≡ Known s) × (number (Known s) ≡ k)
-      to (Known s) e = (s, refl, e)
-      to Unknown e = absurd (h (sym one ∙ e))
+      to : (m : Option Scheme) → number m ≡ k → (s : Scheme) × (m ≡ Some s) × (number (Some s) ≡ k)
+      to (Some s) e = (s, refl, e)
+      to None e = absurd (h (sym one ∙ e))
 
-  pub under_1 : ((s : Scheme) → number (Known s) ≡ 1 → ⊥) → (number m ≡ 1) ↔ (m ≡ Unknown)
+  pub under_1 : ((s : Scheme) → number (Some s) ≡ 1 → ⊥) → (number m ≡ 1) ↔ (m ≡ None)
   under_1 none = (to m, λ e. ap number e ∙ one)
     where
-      to : (m : Named) → number m ≡ 1 → m ≡ Unknown
-      to (Known s) e = absurd (none s e)
-      to Unknown e = refl
+      to : (m : Option Scheme) → number m ≡ 1 → m ≡ None
+      to (Some s) e = absurd (none s e)
+      to None e = refl
 
 pub under_each : (number : ℕ) (P Q : Scheme → Type 0) → ((s : Scheme) → P s ↔ Q s) → Under number P ↔ Under number Q
 under_each number P Q f = (λ t. (t.0, t.1, (f t.0).0 t.2), λ t. (t.0, t.1, (f t.0).1 t.2))
@@ -130,7 +129,7 @@ module _ (key nonce header input room : List ℕ) where
       passed_number (check_in true s) _ room (not o.authentic) (judged_number o.authentic (open_rounds s key nonce header input) (length input - block_of s.cipher) o.body room)
 
   -- under what a number names, as `answered` has it
-  abbrev told_under : (opens : Bool) → Named → ℕ
+  abbrev told_under : (opens : Bool) → Option Scheme → ℕ
   told_under opens m = (under m (call opens) room).number
 
   by_name : (opens : Bool) (scheme : ℕ)
@@ -150,7 +149,7 @@ module _ (key nonce header input room : List ℕ) where
         (under_each scheme (λ s. (call opens s).number ≡ k) Q λ s.
         (λ e. (f s).0 (sym (call_number opens s) ∙ e), λ q. call_number opens s ∙ (f s).1 q))
 
-    pub said_1 : (answer ≡ 1) ↔ (scheme_of scheme ≡ Unknown)
+    pub said_1 : (answer ≡ 1) ↔ (scheme_of scheme ≡ None)
     said_1 =
         let u = under_1 (told_under opens) refl (scheme_of scheme) λ s e.
         check_never s _ _ _ _ _ _ _ 1 refl ((after_check (check_in opens s) _ 1 refl refl).0 (sym (call_number opens s) ∙ e)) in

@@ -2,14 +2,15 @@
 use mathlib.Core.Path.{◌≡◌, refl, sym, ap, ◌∙◌}
 use Prim.Native.Nat.{ℕ, zero, suc, ◌+◌, ◌-◌}
 use native.Mathlib.Omega.{arith}
-use mathlib.Core.Bool.{false}
+use mathlib.Core.Bool.{false, cond}
 use mathlib.Core.List.{List}
-use lib.Dec.{ltb}
+use lib.Dec.{eqb, ltb}
 use lib.ListN.{length}
 use Rattle.ciphers.specs.Ciphers.{block_of}
 use Rattle.schemes.specs.declared.Scheme.{Scheme}
-use Rattle.schemes.specs.declared.Named.{Named}
-use Rattle.schemes.specs.declared.Named.TheVariants.{Known, Unknown}
+use Rattle.std.specs.Prelude.{Option, Some, None, Result, Ok, Err}
+use Rattle.refusals.specs.declared.Refusal.{Refusal}
+use Rattle.refusals.proofs.Back.{refusal_of, refusal_back, number_not_0}
 use Rattle.schemes.specs.Schemes.{scheme_of}
 use Rattle.schemes.proofs.Passed.{Plain, plain_1, check_plain}
 use Rattle.sealing.specs.declared.Answer.{Answer}
@@ -24,9 +25,9 @@ module _ (P : Told → Type 0) where
   passed_all zero t room p q = p
   passed_all (suc k) t room p q = q
 
-  under_all : (m : Named) (f : Scheme → Told) (room : List ℕ) → ((s : Scheme) → P (f s)) → P (refused 1 room) → P (under m f room)
-  under_all (Known s) f room p q = p s
-  under_all Unknown f room p q = q
+  under_all : (m : Option Scheme) (f : Scheme → Told) (room : List ℕ) → ((s : Scheme) → P (f s)) → P (refused 1 room) → P (under m f room)
+  under_all (Some s) f room p q = p s
+  under_all None f room p q = q
 
   module _ (key nonce header : List ℕ) where
     -- a seal is done or refused
@@ -92,7 +93,23 @@ no_length scheme key nonce header run room =
     (λ r l h. refl)
     (λ k p h. refl)
 
--- what is told has the answer's number, length and rounds in it, and the room
-pub told_same : (a b : Answer) (r q : List ℕ) (t : Told) → told a r ≡ t → told b q ≡ t → (a ≡ b) × (r ≡ q)
+-- ---- what is told names the answer: each refusal has its own number, and a forged run's rounds are told
+
+answer_told : Told → Result Answer Refusal
+answer_told t =
+    cond (eqb t.number 0) (Ok (record { length = t.length; rounds = t.rounds })) (Err (refusal_of t.number t.rounds))
+
+told_back : (a : Result Answer Refusal) (room : List ℕ) → answer_told (told a room) ≡ a
+unfolding answer_told
+told_back (Ok a) room = refl
+told_back (Err r) room = rw (number_not_0 r) (ap Err (refusal_back r))
+
+room_in : (a : Result Answer Refusal) (room : List ℕ) → (told a room).room ≡ room
+room_in (Ok a) room = refl
+room_in (Err refusal) room = refl
+
+-- so the answer is one, and the room
+pub told_same : (a b : Result Answer Refusal) (r q : List ℕ) (t : Told) → told a r ≡ t → told b q ≡ t → (a ≡ b) × (r ≡ q)
 told_same a b r q t p e =
-    (ap (λ (u : Told). record { number = u.number; length = u.length; rounds = u.rounds }) (p ∙ sym e), ap (λ (u : Told). u.room) (p ∙ sym e))
+    let same = p ∙ sym e in
+    (sym (told_back a r) ∙ ap answer_told same ∙ told_back b q, sym (room_in a r) ∙ ap (λ (u : Told). u.room) same ∙ room_in b q)

@@ -1,6 +1,8 @@
 -- What seal and open tell their caller, and what the room then holds, for every input (01, What a caller is told; the rounds are C-13's).
 -- Assumes nothing.
-use Rattle.std.specs.Prelude.{ℕ, zero, suc, ◌+◌, ◌-◌, cond, List, ◌++◌, length, take, drop, replicate}
+use Rattle.std.specs.Prelude.{ℕ, zero, suc, ◌+◌, ◌-◌, cond, List, ◌++◌, length, take, drop, replicate, Option, Some, None, Result, Ok, Err}
+use Rattle.refusals.specs.declared.Refusal.{Refusal}
+use Rattle.refusals.specs.Refusal.{number_of, rounds_of}
 use Rattle.ciphers.specs.Ciphers.{block_of}
 use Rattle.prepared.specs.declared.Prepared.{Prepared}
 use Rattle.prepared.specs.Prepared.{key_of}
@@ -9,8 +11,6 @@ use Rattle.modes.specs.Rounds.{seal_calls, open_calls, total}
 use Rattle.states.specs.Modes.{mode_of}
 use Rattle.states.specs.Skinny.{cost_of}
 use Rattle.schemes.specs.declared.Scheme.{Scheme}
-use Rattle.schemes.specs.declared.Named.{Named}
-use Rattle.schemes.specs.declared.Named.TheVariants.{Known, Unknown}
 use Rattle.schemes.specs.Schemes.{scheme_of}
 use Rattle.schemes.specs.Checks.{seal_check, open_check}
 use Rattle.sealing.specs.declared.Answer.{Answer}
@@ -22,8 +22,9 @@ pub record Told : Type 0 where
   pub room : List ℕ
   pub rounds : ℕ
 
-abbrev pub told : Answer → List ℕ → Told
-told a room = record { number = a.number; length = a.length; room = room; rounds = a.rounds }
+abbrev pub told : Result Answer Refusal → List ℕ → Told
+told (Ok a) room = record { number = 0; length = a.length; room = room; rounds = a.rounds }
+told (Err r) room = record { number = number_of r; length = 0; room = room; rounds = rounds_of r }
 
 -- the output, at the front of the room
 abbrev pub written : Told → List ℕ
@@ -51,9 +52,9 @@ passed zero t room = t
 passed (suc k) t room = refused (suc k) room
 
 -- under the scheme that a number names, or 1
-abbrev pub under : Named → (Scheme → Told) → List ℕ → Told
-under (Known s) f room = f s
-under Unknown f room = refused 1 room
+abbrev pub under : Option Scheme → (Scheme → Told) → List ℕ → Told
+under (Some s) f room = f s
+under None f room = refused 1 room
 
 -- ---- under a scheme, by its mode
 

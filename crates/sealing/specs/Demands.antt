@@ -1,17 +1,16 @@
 -- The words of the demands: what is admitted, and what it means that a body seals to a run. Assumes nothing.
-use Rattle.std.specs.Prelude.{◌≡◌, false, ℕ, ◌≤◌, List, length}
+use Rattle.std.specs.Prelude.{◌≡◌, false, ℕ, ◌≤◌, List, length, Some}
 use Rattle.cells.specs.Cells.{Bytes, Block}
 use Rattle.ciphers.specs.Ciphers.{block_of}
 use Rattle.modes.specs.Mode.{seal_run}
 use Rattle.states.specs.Modes.{mode_of}
 use Rattle.schemes.specs.declared.Scheme.{Scheme}
-use Rattle.schemes.specs.declared.Named.TheVariants.{Known}
 use Rattle.schemes.specs.Schemes.{scheme_of}
 use Rattle.schemes.specs.Checks.{blank}
 
 -- a number names a scheme, and key, nonce and header are bytes that it admits
 pub record Admitted (number : ℕ) (s : Scheme) (key nonce header : List ℕ) : Type 0 where
-  pub named : scheme_of number ≡ Known s
+  pub named : scheme_of number ≡ Some s
   pub key_fits : Block s.key key
   pub nonce_fits : Block s.nonce nonce
   pub header_bytes : Bytes header

@@ -1,8 +1,7 @@
 -- The figures of C-13 (document 02; schemes 4 to 7 are C-14's), two tables: the rounds of the block calls, and those of records by their lengths. Assumes nothing.
 use Rattle.std.specs.Prelude.{ℕ, Bool, true, false, cond, List, [], ◌∷◌}
 use Rattle.forkskinny.specs.Calls.{fork_of, unfork_of}
-use Rattle.sealing.specs.declared.Budget.{Budget}
-use Rattle.sealing.specs.Budget.{budget_of}
+use Rattle.sealing.specs.Budget.{Budget, budget_of}
 
 -- ---- block calls
 

@@ -1,5 +1,5 @@
 pub mod Laws
-pub mod Lending
 pub mod Orders
 pub mod Skinny
+pub mod Starts
 pub mod Tweaks

@@ -1,3 +1,4 @@
-pub mod Skinny
 pub mod Modes
+pub mod Skinny
 pub mod Steps
+pub mod Under

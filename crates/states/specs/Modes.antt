@@ -1,5 +1,5 @@
 -- The modes by name, over ForkSkinny, and what their blocks cost. Assumes nothing.
-use Rattle.std.specs.Prelude.{ℕ, Bool, true, false, List, take}
+use Rattle.std.specs.Prelude.{ℕ, Bool, true, false, List, take, replicate}
 use Rattle.ciphers.specs.declared.Cipher.{Cipher}
 use Rattle.ciphers.specs.Ciphers.{block_of}
 use Rattle.modes.specs.Forkcipher.{half0, both_halves}
@@ -52,6 +52,10 @@ takes_blank Paef = true
 takes_blank Saef = true
 takes_blank Umbreon = false
 takes_blank Jolteon = false
+
+-- the code's record before the header: what every mode carries there
+abbrev pub beginning : State
+beginning = record { mask = replicate 16 0; delta = replicate 16 0; number = 1; first = true }
 
 -- what the code's record carries of a mode of the Eevee family
 abbrev pub chain_of : ℕ → State → Chain

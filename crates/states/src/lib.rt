@@ -4,10 +4,13 @@
 
 ghost use Rattle.std.specs.Prelude.{◌≡◌, ◌++◌, ◌+◌, ◌≤◌, length, take};
 ghost use Rattle.modes.specs.Blocks.{be16};
-ghost use Rattle.states.specs.Modes.{block_first, takes_blank};
+ghost use Rattle.states.specs.Modes.{beginning, block_first, takes_blank};
+
+pub mod under;
 
 use blocks::front;
-use kept::Kept;
+use forkskinny::{Forked, Unforked};
+pub use under::Under;
 
 // The modes, by name.
 #[derive(Clone, Copy)]
@@ -19,21 +22,27 @@ pub enum Kind {
 }
 
 // What goes from block to block: S (PAEF), Delta (SAEF), T_A (Umbreon) or the sealed block before (Jolteon); Delta (Umbreon, Jolteon); the number
-// of the next block (all but SAEF); whether no block was worked yet (SAEF); and what the room for round keys holds.
+// of the next block (all but SAEF); and whether no block was worked yet (SAEF).
 #[derive(Clone, Copy)]
 pub struct State {
     pub mask: [u8; 16],
     pub delta: [u8; 16],
     pub number: usize,
     pub first: bool,
-    pub kept: Kept,
 }
 
-// One block, such as S, Delta or T_A behind a header block, and the round keys.
-#[derive(Clone, Copy)]
-pub struct Left {
-    pub mask: [u8; 16],
-    pub kept: Kept,
+impl State {
+    // Before the header, under every mode.
+    pub fn start() -> State
+        ensures { result ≡ beginning }
+    {
+        State {
+            mask: [0; 16],
+            delta: [0; 16],
+            number: 1,
+            first: true,
+        }
+    }
 }
 
 // A block's output, and what goes on.
@@ -43,12 +52,33 @@ pub struct Step {
     pub next: State,
 }
 
-// Two blocks: of a last block, the one that is given whole, and the one of which leading bytes are given; and the round keys.
+// Two blocks: of a last block, the one that is given whole, and the one of which leading bytes are given.
 #[derive(Clone, Copy)]
 pub struct Pair {
     pub first: [u8; 16],
     pub second: [u8; 16],
-    pub kept: Kept,
+}
+
+// Forward: half 0, then half 1.
+impl From<Forked> for Pair {
+    ghost from_gives = { λ f p. p ≡ record { first = f.half0; second = f.half1 } };
+
+    fn from(f: Forked) -> Pair {
+        let first = f.half0;
+        let second = f.half1;
+        Pair { first, second }
+    }
+}
+
+// Back: the input, then the other half.
+impl From<Unforked> for Pair {
+    ghost from_gives = { λ u p. p ≡ record { first = u.input; second = u.other } };
+
+    fn from(u: Unforked) -> Pair {
+        let first = u.input;
+        let second = u.other;
+        Pair { first, second }
+    }
 }
 
 // The rounds of a header block, of a body block that is not the last, and of the last one.

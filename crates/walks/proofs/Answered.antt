@@ -8,7 +8,8 @@ use Rattle.modes.specs.Mode.{Opened}
 use Rattle.states.specs.declared.Kind.{Kind}
 use Rattle.states.specs.declared.State.{State}
 use Rattle.states.specs.Modes.{Carried}
-use Rattle.walks.specs.Walks.{Reached, Put, OpenedTo}
+use Rattle.states.specs.Steps.{Reached}
+use Rattle.walks.specs.Walks.{Put, OpenedTo}
 
 pub reached_as : {k : Kind} {n : ℕ} {t u : Carried k} {most : ℕ} {r : State} → t ≡ u → Reached k n t most r → Reached k n u most r
 reached_as e r = record { state = r.state ∙ e; number = r.number }

@@ -1,4 +1,5 @@
 mod Answered
+mod ByName
 pub mod Counted
 mod FromHeader
 mod Going
@@ -6,6 +7,7 @@ mod Joined
 mod Opened
 mod Places
 mod Sealed
+mod Strides
 mod Turned
 mod Walked
 mod Writing

@@ -1,32 +1,31 @@
 -- Opening a run, from what the callees ensure.
 --     open_ended   the last block, and the leading bytes of the second
---     OpenGoing    the loop's invariant: how it begins, what a turn and the end require, and what they do to it
+--     OpenGoing    the loop's invariant: how it begins, and what a turn and the end do to it
 -- Assumes nothing.
-use mathlib.Core.Path.{◌≡◌, refl, sym, ap, ap₂, ◌∙◌, subst⁻¹}
+use mathlib.Core.Path.{◌≡◌, refl, sym, ap, ap₂, ◌∙◌, subst, subst⁻¹}
 use mathlib.Core.Bool.{Bool, not, cond, ◌&&◌}
 use mathlib.Core.List.{List, ◌∷◌, ◌++◌}
-use Prim.Native.Nat.{ℕ, zero, suc, ◌+◌, ◌-◌, ◌≤◌, ◌<◌}
+use Prim.Native.Nat.{ℕ, zero, suc, ◌+◌, ◌-◌, ◌*◌, ◌≤◌, ◌<◌}
 use native.Mathlib.Omega.{arith}
 use lib.ListN.{length, take, drop, replicate}
 use lib.Seq.{length-take-le, take-take, take-add, drop_at}
 use Rattle.ciphers.proofs.Laws.{block_some, block_most}
-use Rattle.ciphers.specs.declared.Cipher.{Cipher}
 use Rattle.ciphers.specs.Ciphers.{block_of}
-use Rattle.kept.specs.Kept.{Lent}
-use Rattle.modes.specs.Blocks.{full, ten, pad, same}
+use Rattle.modes.specs.Blocks.{before_last, full, ten, pad, same}
 use Rattle.modes.specs.Mode.{Mode, Opened, before, judge, end_tag, end_block, open_last, open_rest}
 use Rattle.modes.proofs.Turn.{Opening, open_begin, open_turn, open_end}
 use Rattle.states.specs.declared.Kind.{Kind}
 use Rattle.states.specs.declared.State.{State}
-use Rattle.states.specs.Modes.{Carried, mode_of, block_first, state_of}
+use Rattle.states.specs.Modes.{Carried, block_first, state_of}
 use Rattle.states.specs.Steps.{Paired}
+use Rattle.states.specs.Under.{KeyAndNonce, mode_at}
 use Rattle.states.proofs.Orders.{block_first_lem}
 use Rattle.blocks.proofs.Parts.{part_rest}
-use Rattle.walks.specs.Walks.{Ready, Walkable, Openable, OpenTurned, OpenEnded, RunOpened}
+use Rattle.walks.specs.Walks.{Openable, OpenTurned, OpenEnded, RunOpened}
 use Rattle.walks.proofs.Answered.{put_as, opened_as}
 use Rattle.walks.proofs.Going.{Going, going_none, going_more}
 use Rattle.walks.proofs.Joined.{block_there, tag_there}
-use Rattle.walks.proofs.Places.{ready_at, lent, after, lent_long}
+use Rattle.walks.proofs.Places.{lent, after, lent_long}
 use Rattle.walks.proofs.Writing.{writing_end}
 
 -- ---- the parts that are compared
@@ -80,12 +79,12 @@ module _ {St : Type 0} (n : ℕ) (M : Mode St) (st : St) (part first second : Li
       rw (take-take r n first h, take-take r n second h, b, t)
 
 -- the end of a run, opened into a rest: its block begins at `at`, the leading bytes of the second at `from`; m is the n of the code
-module _ (c : Cipher) (k : Kind) (key nonce : List ℕ) (s : State) (part rest₀ : List ℕ) where
+module _ (k : Kind) (u : KeyAndNonce) (s : State) (part rest₀ : List ℕ) where
   abbrev n : ℕ
-  n = block_of c
+  n = block_of u.cipher
 
   abbrev M : Mode (Carried k)
-  M = mode_of k c key nonce
+  M = mode_at k u
 
   abbrev st : Carried k
   st = state_of k n s
@@ -97,7 +96,7 @@ module _ (c : Cipher) (k : Kind) (key nonce : List ℕ) (s : State) (part rest�
         f ≡ full m r → ahead ≡ block_first k → at ≡ cond (not ahead) r 0 → from ≡ cond ahead m 0 → take m x ≡ pad m (lent at part)
         → Paired k n (M.unfin f) (M.untag f) s x first second → rest ≡ take r first ++ drop r rest₀
         → is ≡ (same (take r second) (take (from + r - from) (drop from part)) && same (take (m - r) (drop r first)) (take (m - r) (ten 15)))
-        → n ≤ length part → length part ≤ n + n → OpenEnded c k key nonce s part rest₀ is rest
+        → n ≤ length part → length part ≤ n + n → OpenEnded k u s part rest₀ is rest
 
     ended_at : Ends n
     ended_at ef eo ea et ex p er ei h g =
@@ -105,17 +104,17 @@ module _ (c : Cipher) (k : Kind) (key nonce : List ℕ) (s : State) (part rest�
         let long : length part ≡ r + n = omega arith in
         let e : take n x ≡ end_block ahead n r part = ex ∙ block_there n r part long ahead at ea in
         let o =
-        open_is n M st part first second ahead (eo ∙ sym (block_first_lem k c key nonce))
+        open_is n M st part first second ahead (eo ∙ sym (block_first_lem k u.cipher u.key u.nonce))
         (p.first_is ∙ ap₂ (λ (b : Bool) (y : List ℕ). M.unfin b st y) ef e)
         (p.second_is ∙ ap₂ (λ (b : Bool) (y : List ℕ). M.untag b st y) ef e)
-        ∙ judge_is n M st part first second (end_tag ahead n r part) (omega arith) (block_most c) p.first_long in
+        ∙ judge_is n M st part first second (end_tag ahead n r part) (omega arith) (block_most u.cipher) p.first_long in
         opened_as (sym o) refl
         (record {
           authentic_is =
               ei
               ∙ ap (λ (t : List ℕ). same (take r second) t && same (take (n - r) (drop r first)) (take (n - r) (ten 15)))
               (tag_there n r part long ahead from et);
-          put = record { said = er; long = length-take-le r first (omega (arith, p.first_long, block_most c)) };
+          put = record { said = er; long = length-take-le r first (omega (arith, p.first_long, block_most u.cipher)) };
         })
 
     pub open_ended : (m : ℕ) → m ≡ n → Ends m
@@ -124,88 +123,65 @@ module _ (c : Cipher) (k : Kind) (key nonce : List ℕ) (s : State) (part rest�
 -- ---- the loop
 
 -- what holds of what is laid down: in front of what the rest opens to, it is what the run opens to
-abbrev pub Opens : (c : Cipher) (k : Kind) (key nonce run : List ℕ) (start s : State) (at : ℕ) (done : List ℕ) → Type 0
-Opens c k key nonce run start s at done =
-    let n = block_of c in
-    let M = mode_of k c key nonce in
+abbrev pub Opens : (k : Kind) (u : KeyAndNonce) (run : List ℕ) (start s : State) (at : ℕ) (done : List ℕ) → Type 0
+Opens k u run start s at done =
+    let n = block_of u.cipher in
+    let M = mode_at k u in
     Opening n M (state_of k n s) run at done (open_rest n M (state_of k n start) run)
 
-module _ (c : Cipher) (k : Kind) (key nonce run : List ℕ) (start : State) (room₀ : List ℕ) where
+-- as far as the last block; N is the block's size as the code has it
+module _ (k : Kind) (u : KeyAndNonce) (run : List ℕ) (start : State) (room₀ : List ℕ) (last : ℕ) where
+  abbrev size : ℕ
+  size = block_of u.cipher
+
+  abbrev mode : Mode (Carried k)
+  mode = mode_at k u
+
+  abbrev all : Opened
+  all = open_rest size mode (state_of k size start) run
+
   abbrev pub OpenGoing : State → ℕ → List ℕ → Type 0
-  OpenGoing = Going (length run - block_of c) (Opens c k key nonce run start) room₀
+  OpenGoing = Going size (length run - size) last (Opens k u run start) room₀
 
-  pub opening_none : start.number ≤ 1 → block_of c < length run → OpenGoing start 0 room₀
-  opening_none e h =
-      going_none (length run - block_of c) (Opens c k key nonce run start) room₀ start
-      (open_begin (block_of c) (mode_of k c key nonce) (block_some c) (state_of k (block_of c) start) run) (omega arith) e
+  module _ (N : ℕ) (e : N ≡ size) (place : last ≡ before_last N (length run - N) * N) where
+    last_at : last ≡ before_last size (length run - size) * size
+    last_at = place ∙ (λ i. before_last (e i) (length run - e i) * e i)
 
-  module _ {s : State} {at : ℕ} {room : List ℕ} (g : OpenGoing s at room) where
-    abbrev size : ℕ
-    size = block_of c
+    pub opening_none : start.number ≤ 1 → OpenGoing start 0 room₀
+    opening_none =
+        going_none size (length run - size) last last_at (Opens k u run start) room₀ start
+        (open_begin size mode (block_some u.cipher) (state_of k size start) run)
 
-    abbrev mode : Mode (Carried k)
-    mode = mode_of k c key nonce
+    module _ (more : last + N < length run) (may : Openable size run room₀) (s : State) where
+      abbrev here : Carried k
+      here = state_of k size s
 
-    abbrev here : Carried k
-    here = state_of k size s
+      pub opening_more : {at : ℕ} {room : List ℕ} (ys : List ℕ) (s' : State) → OpenGoing s at room → at < last
+          → OpenTurned k u s (lent at run) (lent at room) s' ys → OpenGoing s' (at + N) (after at room ys)
+      opening_more {at} {room} ys s' g h t =
+          let lt : at + size + size < length run = omega (arith, g.place.turn h, more, e) in
+          subst (λ (m : ℕ). OpenGoing s' (at + m) (after at room ys)) (sym e)
+          (going_more size (length run - size) last last_at (Opens k u run start) g t (block_some u.cipher) h (omega (arith, more, e, may.fits))
+          (λ done o.
+          open_turn size mode (block_some u.cipher) here (state_of k size s') run at done all (take size (lent at run)) _ o lt
+          (ap (take size) (part_rest at run)) refl t.reached.state))
 
-    abbrev all : Opened
-    all = open_rest size mode (state_of k size start) run
+      pub opening_stop : {at : ℕ} {room : List ℕ} → OpenGoing s at room → last ≤ at → OpenGoing s last room
+      opening_stop {room = room} g h = subst (λ (m : ℕ). OpenGoing s m room) (omega (arith, g.place.inside, h)) g
 
-    abbrev part : List ℕ
-    part = lent at run
-
-    more : (s' : State) (ys : List ℕ) → at + size + size < length run → length run ≤ length room₀ + size
-        → OpenTurned c k key nonce s part (lent at room) s' ys → OpenGoing s' (at + size) (after at room ys)
-    more s' ys h f t =
-        going_more g t (block_some c) (omega arith) (omega arith)
-        (λ done o.
-        open_turn size mode (block_some c) here (state_of k size s') run at done all (take size part) _ o h (ap (take size) (part_rest at run)) refl
-        t.reached.state)
-
-    -- m is the n of the code
-    module _ (m : ℕ) (em : m ≡ size) (w : Walkable c k nonce run) (may : Openable size run room₀) where
-      -- what a turn requires, and what it does
-      module _ (h : m < length run - m - at) where
-        pub turn_may
-            : {share : List ℕ} {keys : List (List ℕ)} → Lent c share s.kept keys
-            → Ready c k share nonce s keys × (size ≤ length part) × (size ≤ length (lent at room))
-        turn_may l =
-            let i = g.inside in
-            let o = g.writing.wrote.long in
-            let p = lent_long at run in
-            let q = lent_long at room in
-            (ready_at w at g.number (omega arith) l, omega arith, omega arith)
-
-        pub opening_more : (s' : State) (ys : List ℕ) → OpenTurned c k key nonce s part (lent at room) s' ys → OpenGoing s' (at + m) (after at room ys)
-        opening_more s' ys t =
-            subst⁻¹ (λ (j : ℕ). OpenGoing s' (at + j) (after at room ys)) em (more s' ys (omega (arith, h, em)) may.fits t)
-
-      -- what the end requires, and what it comes to
-      module _ (h : length run - m - at ≤ m) where
-        pub end_may
-            : {share : List ℕ} {keys : List (List ℕ)} → Lent c share s.kept keys
-            → Ready c k share nonce s keys × Openable size part (lent at room) × (length part ≤ size + size)
-        end_may l =
-            let i = g.inside in
-            let o = g.writing.wrote.long in
-            let p = lent_long at run in
-            let q = lent_long at room in
-            (ready_at w at g.number (omega arith) l, record { block = omega arith; fits = omega arith }, omega arith)
-
-        all_is : (done : List ℕ) → Opening size mode here run at done all → before done (open_last size mode here part) ≡ all
+      module _ (short : length run ≤ last + N + N) {room : List ℕ} (g : OpenGoing s last room) (is : Bool) (ys : List ℕ) where
+        all_is : (done : List ℕ) → Opening size mode here run last done all → before done (open_last size mode here (lent last run)) ≡ all
         all_is done o =
-            ap (λ (t : List ℕ). before done (open_last size mode here t)) (part_rest at run)
-            ∙ open_end size mode (block_some c) here run at done all o (omega arith)
+            ap (λ (t : List ℕ). before done (open_last size mode here t)) (part_rest last run)
+            ∙ open_end size mode (block_some u.cipher) here run last done all o (omega (arith, short, e))
 
-        pub opening_end : (is : Bool) (ys : List ℕ) → OpenEnded c k key nonce s part (lent at room) is ys
-            → RunOpened c k key nonce start run room₀ is (after at room ys)
-        opening_end is ys e =
-            let i = g.inside in
-            let p = lent_long at run in
+        -- the last block was put into the rest
+        pub opening_end : OpenEnded k u s (lent last run) (lent last room) is ys → RunOpened k u start run room₀ is (after last room ys)
+        opening_end t =
+            let p = lent_long last run in
             record {
-              authentic_is = e.authentic_is ∙ ap (λ (o : Opened). o.authentic) (all_is g.writing.done g.writing.holds);
+              authentic_is = t.authentic_is ∙ ap (λ (o : Opened). o.authentic) (all_is g.writing.done g.writing.holds);
               put =
-                  put_as refl (omega arith)
-                  (writing_end g.writing e.put (omega arith) all.body (λ done o. ap (λ (p : Opened). p.body) (all_is done o)));
+                  put_as refl (omega (arith, e, more))
+                  (writing_end g.writing t.put (omega (arith, e, more, may.fits)) all.body (λ done o. ap (λ (p : Opened). p.body) (all_is done o)));
             }

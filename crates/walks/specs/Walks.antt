@@ -2,20 +2,15 @@
 use Rattle.std.specs.Prelude.{◌≡◌, Bool, List, ◌++◌, ℕ, ◌+◌, ◌-◌, ◌≤◌, length, take, drop}
 use Rattle.ciphers.specs.declared.Cipher.{Cipher}
 use Rattle.ciphers.specs.Ciphers.{block_of}
-use Rattle.kept.specs.Kept.{Lent}
 use Rattle.modes.specs.Blocks.{full, pad}
 use Rattle.modes.specs.Mode.{Mode, Opened, walk, headed, seal_last, seal_rest, seal_run, open_last, open_rest, open_run}
 use Rattle.states.specs.declared.Kind.{Kind}
 use Rattle.states.specs.declared.State.{State}
 use Rattle.states.specs.Modes.{Carried, mode_of, tail_of, state_of}
+use Rattle.states.specs.Steps.{Reached}
+use Rattle.states.specs.Under.{KeyAndNonce, mode_at}
 
 -- ---- asked
-
--- of a step: the nonce fills the tweak, the state's number can be counted on, and the room holds what the state tells of it
-pub record Ready (c : Cipher) (k : Kind) (share nonce : List ℕ) (s : State) (keys : List (List ℕ)) : Type 0 where
-  pub fills : length nonce + tail_of k ≡ block_of c
-  pub number : s.number ≤ 4294967296
-  pub lent : Lent c share s.kept keys
 
 -- of a walk: the nonce fills the tweak, and the blocks of what is walked can be counted
 pub record Walkable (c : Cipher) (k : Kind) (nonce walked : List ℕ) : Type 0 where
@@ -28,11 +23,6 @@ pub record Openable (n : ℕ) (run room : List ℕ) : Type 0 where
   pub fits : length run ≤ length room + n
 
 -- ---- answered
-
--- a state: what a mode carries there, and a bound of its number
-pub record Reached (k : Kind) (n : ℕ) (to : Carried k) (most : ℕ) (r : State) : Type 0 where
-  pub state : state_of k n r ≡ to
-  pub number : r.number ≤ most
 
 -- l bytes at the front of a room, the rest unchanged
 pub record Put (out : List ℕ) (l : ℕ) (old new : List ℕ) : Type 0 where
@@ -50,13 +40,13 @@ pub record Turned (k : Kind) (n : ℕ) (f : Carried k → List ℕ → List ℕ)
   pub reached : Reached k n (g (state_of k n s) (take n part)) (s.number + 1) next
   pub put : Put (f (state_of k n s) (take n part)) n old new
 
--- ---- by a cipher and a mode, under a key and a nonce
-module _ (c : Cipher) (k : Kind) (key nonce : List ℕ) where
+-- ---- by a mode, under a key and a nonce
+module _ (k : Kind) (u : KeyAndNonce) where
   abbrev n : ℕ
-  n = block_of c
+  n = block_of u.cipher
 
   abbrev M : Mode (Carried k)
-  M = mode_of k c key nonce
+  M = mode_at k u
 
   -- a header: a block that is not the last, the last one, all of them, and what it leaves
   abbrev pub HeadTurned : (s : State) (part : List ℕ) → State → Type 0
@@ -71,7 +61,7 @@ module _ (c : Cipher) (k : Kind) (key nonce : List ℕ) where
   abbrev pub Headed : (empty : Bool) (header : List ℕ) → State → Type 0
   Headed empty header = Reached k n (headed n M empty header) 1
 
-  -- a body: a block that is not the last, the last one, all of them; and a record
+  -- a body: a block that is not the last, the last one, all of them
   abbrev pub SealTurned : (s : State) (part old : List ℕ) → State → List ℕ → Type 0
   SealTurned = Turned k n M.out M.next
 
@@ -80,9 +70,6 @@ module _ (c : Cipher) (k : Kind) (key nonce : List ℕ) where
 
   abbrev pub BodySealed : (start : State) (body old : List ℕ) → List ℕ → Type 0
   BodySealed start body = Put (seal_rest n M (state_of k n start) body) (length body + n)
-
-  abbrev pub RecordSealed : (header body old : List ℕ) → List ℕ → Type 0
-  RecordSealed header body = Put (seal_run n M header body) (length body + n)
 
   -- a run, likewise
   abbrev pub OpenTurned : (s : State) (part old : List ℕ) → State → List ℕ → Type 0
@@ -94,5 +81,10 @@ module _ (c : Cipher) (k : Kind) (key nonce : List ℕ) where
   abbrev pub RunOpened : (start : State) (run old : List ℕ) → Bool → List ℕ → Type 0
   RunOpened start run = OpenedTo (open_rest n M (state_of k n start) run) (length run - n)
 
+-- ---- of a record: sealed, and opened
+module _ (c : Cipher) (k : Kind) (key nonce : List ℕ) where
+  abbrev pub RecordSealed : (header body old : List ℕ) → List ℕ → Type 0
+  RecordSealed header body = Put (seal_run (block_of c) (mode_of k c key nonce) header body) (length body + block_of c)
+
   abbrev pub RecordOpened : (header run old : List ℕ) → Bool → List ℕ → Type 0
-  RecordOpened header run = OpenedTo (open_run n M header run) (length run - n)
+  RecordOpened header run = OpenedTo (open_run (block_of c) (mode_of k c key nonce) header run) (length run - block_of c)

@@ -1,22 +1,11 @@
 // How many rounds a record runs: by the lengths of its header and body alone, whatever they hold.
-ghost use Rattle.std.specs.Prelude.{◌≡◌, ◌≤◌, ◌<◌};
-ghost use Rattle.modes.specs.Blocks.{before_last};
+ghost use Rattle.std.specs.Prelude.{◌≡◌, ◌≤◌};
 ghost use Rattle.modes.specs.Rounds.{head_blocks};
 ghost use Rattle.states.specs.Modes.{rounds_of};
 
+use crate::before_last;
 use ciphers::Cipher;
 use states::Kind;
-
-// The blocks before the last one, of l bytes.
-fn before_last(n: usize, l: usize) -> usize
-    requires { 0 < n }
-    ensures { result ≡ before_last n l }
-{
-    if l == 0 {
-        return 0;
-    }
-    (l - 1) / n
-}
 
 // The blocks of a header: one, padded, where header and body are empty.
 fn head_blocks(n: usize, header: usize, body: usize) -> usize

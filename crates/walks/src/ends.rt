@@ -9,10 +9,7 @@ use blocks::store;
 pub fn begin(behind: bool, k: usize) -> usize
     ensures { (result ≡ cond behind k 0) × (result ≤ k) }
 {
-    if behind {
-        return k;
-    }
-    0
+    if behind { k } else { 0 }
 }
 
 // Both of them, each to its place: n bytes of the block, and l of the second.

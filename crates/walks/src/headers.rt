@@ -1,92 +1,59 @@
 // A header, block by block from its own place.
-ghost use Rattle.std.specs.Prelude.{◌≤◌, length};
-ghost use Rattle.constants.specs.Constants.{Room};
+ghost use Rattle.std.specs.Prelude.{◌≡◌, ◌≤◌, length};
 ghost use Rattle.ciphers.specs.Ciphers.{block_of};
-ghost use Rattle.prepared.specs.Prepared.{key_in, Made};
-ghost use Rattle.kept.specs.Kept.{Lent};
-ghost use Rattle.walks.specs.Walks.{Ready, Walkable, HeadTurned, HeadEnded, HeadWalked, Headed};
+ghost use Rattle.states.specs.Steps.{Steppable};
+ghost use Rattle.walks.specs.Walks.{Walkable, HeadTurned, HeadEnded, HeadWalked, Headed};
 
 use crate::is_full;
 use blocks::load;
-use ciphers::Cipher;
-use states::{Kind, State};
+use states::{State, Under};
+use steps::Mode;
 
 // The block at the front of a part, not the last one.
-fn turn(
-    c: Cipher,
-    k: Kind,
-    share: &[u8; 784],
-    nonce: &[u8],
-    keys: &mut [[u8; 8]; 97],
-    s: State,
-    part: &[u8],
-) -> State
-    requires { Ready c k share.now nonce.now s keys.old × (block_of c ≤ length part.now) }
-    ensures { HeadTurned c k (key_in c share.now) nonce.now s part.now result × Lent c share.now result.kept keys.new }
+fn turn<M: Mode>(under: &mut Under, s: State, part: &[u8]) -> State
+    requires steppable { Steppable M.kind under.old s }
+    requires whole { block_of under.old.cipher ≤ length part.now }
+    ensures turned { HeadTurned M.kind under.old s part.now result }
+    ensures same { under.new ≡ under.old }
 {
-    let n = ciphers::block_of(c);
-    steps::head(c, k, share, nonce, keys, s, load(part, n))
+    let n = under.block();
+    M::head(under, s, load(part, n))
 }
 
 // The last one, short or full.
-fn end(
-    c: Cipher,
-    k: Kind,
-    share: &[u8; 784],
-    nonce: &[u8],
-    keys: &mut [[u8; 8]; 97],
-    empty: bool,
-    s: State,
-    part: &[u8],
-) -> State
-    requires { Ready c k share.now nonce.now s keys.old }
-    ensures { HeadEnded c k (key_in c share.now) nonce.now empty s part.now result × Lent c share.now result.kept keys.new }
+fn end<M: Mode>(under: &mut Under, empty: bool, s: State, part: &[u8]) -> State
+    requires { Steppable M.kind under.old s }
+    ensures ended { HeadEnded M.kind under.old empty s part.now result }
+    ensures same { under.new ≡ under.old }
 {
-    let n = ciphers::block_of(c);
-    let f = is_full(n, part.len());
-    steps::head_last(c, k, share, nonce, keys, empty, f, s, load(part, n))
+    let n = under.block();
+    let full = is_full(n, part.len());
+    M::head_last(under, empty, full, s, load(part, n))
 }
 
-fn walk(
-    c: Cipher,
-    k: Kind,
-    share: &[u8; 784],
-    nonce: &[u8],
-    keys: &mut [[u8; 8]; 97],
-    empty: bool,
-    header: &[u8],
-) -> State
-    requires { Walkable c k nonce.now header.now × Made c share.now × Room keys.old }
-    ensures { HeadWalked c k (key_in c share.now) nonce.now empty header.now result × Lent c share.now result.kept keys.new }
+fn walk<M: Mode>(under: &mut Under, empty: bool, header: &[u8]) -> State
+    requires { Walkable under.old.cipher M.kind under.old.nonce header.now }
+    ensures walked { HeadWalked M.kind under.old empty header.now result }
+    ensures same { under.new ≡ under.old }
 {
-    let n = ciphers::block_of(c);
-    let mut s = steps::start(c, k, share, nonce);
-    let mut at = 0;
-    while n < header.len() - at {
-        s = turn(c, k, share, nonce, keys, s, &header[at..]);
-        at += n;
+    let n = under.block();
+    let mut s = State::start();
+    let mut rest = header;
+    while n < rest.len() {
+        s = turn::<M>(under, s, rest);
+        rest = &rest[n..];
     }
-    end(c, k, share, nonce, keys, empty, s, &header[at..])
+    end::<M>(under, empty, s, rest)
 }
 
 // What a header leaves; empty says that the body is. An empty header leaves nothing before a body.
-pub fn head(
-    c: Cipher,
-    k: Kind,
-    share: &[u8; 784],
-    nonce: &[u8],
-    keys: &mut [[u8; 8]; 97],
-    empty: bool,
-    header: &[u8],
-) -> State
-    requires { Walkable c k nonce.now header.now × Made c share.now × Room keys.old }
-    ensures { Headed c k (key_in c share.now) nonce.now empty header.now result × Lent c share.now result.kept keys.new }
+pub fn head<M: Mode>(under: &mut Under, empty: bool, header: &[u8]) -> State
+    requires { Walkable under.old.cipher M.kind under.old.nonce header.now }
+    ensures headed { Headed M.kind under.old empty header.now result }
+    ensures same { under.new ≡ under.old }
 {
-    if empty {
-        return walk(c, k, share, nonce, keys, empty, header);
+    if !empty && header.len() == 0 {
+        return State::start();
     }
-    if header.len() == 0 {
-        return steps::start(c, k, share, nonce);
-    }
-    walk(c, k, share, nonce, keys, empty, header)
+    walk::<M>(under, empty, header)
 }

@@ -2,37 +2,29 @@
 // told at its end; the caller clears the room where it is not.
 ghost use Rattle.std.specs.Prelude.{◌≡◌, ◌&&◌, ◌+◌, ◌-◌, ◌≤◌, ◌<◌, length, take, drop};
 ghost use Rattle.ciphers.specs.Ciphers.{block_of};
-ghost use Rattle.prepared.specs.Prepared.{key_in};
-ghost use Rattle.kept.specs.Kept.{Lent};
 ghost use Rattle.modes.specs.Blocks.{same, ten};
-ghost use Rattle.walks.specs.Walks.{Ready, Walkable, Openable, OpenTurned, OpenEnded, RunOpened};
+ghost use Rattle.states.specs.Steps.{Steppable};
+ghost use Rattle.walks.specs.Walks.{Walkable, Openable, OpenTurned, OpenEnded, RunOpened};
 
 use crate::ends::begin;
-use crate::is_full;
+use crate::{is_full, last_block};
 use blocks::{differences, load, store};
-use ciphers::Cipher;
-use states::{Kind, State};
+use states::{State, Under};
+use steps::Mode;
 
 // The block at the front of a part, not the last one.
 #[inline(never)]
-fn turn(
-    c: Cipher,
-    k: Kind,
-    share: &[u8; 784],
-    nonce: &[u8],
-    keys: &mut [[u8; 8]; 97],
-    s: State,
-    part: &[u8],
-    rest: &mut [u8],
-) -> State
-    requires { Ready c k share.now nonce.now s keys.old × (block_of c ≤ length part.now) × (block_of c ≤ length rest.old) }
-    ensures { OpenTurned c k (key_in c share.now) nonce.now s part.now rest.old result rest.new × Lent c share.now result.kept keys.new }
+fn turn<M: Mode>(under: &mut Under, s: State, part: &[u8], rest: &mut [u8]) -> State
+    requires steppable { Steppable M.kind under.old s }
+    requires whole { block_of under.old.cipher ≤ length part.now }
+    requires fits { block_of under.old.cipher ≤ length rest.old }
+    ensures turned { OpenTurned M.kind under.old s part.now rest.old result rest.new }
+    ensures same { under.new ≡ under.old }
 {
-    let n = ciphers::block_of(c);
-    let t = steps::open_block(c, k, share, nonce, keys, s, load(part, n));
-    let out = t.out;
-    store(rest, out, n);
-    t.next
+    let n = under.block();
+    let opened = M::open_block(under, s, load(part, n));
+    store(rest, opened.out, n);
+    opened.next
 }
 
 // Whether r bytes of the second block are the tag, and what stands behind r bytes of the last block is padding: one answer, told
@@ -50,51 +42,36 @@ fn judge(n: usize, r: usize, block: [u8; 16], second: [u8; 16], tag: &[u8]) -> b
 }
 
 // The end of a run: its last block, and leading bytes of the second, each from its place.
-fn end(
-    c: Cipher,
-    k: Kind,
-    share: &[u8; 784],
-    nonce: &[u8],
-    keys: &mut [[u8; 8]; 97],
-    s: State,
-    part: &[u8],
-    rest: &mut [u8],
-) -> bool
-    requires { Ready c k share.now nonce.now s keys.old × Openable (block_of c) part.now rest.old × (length part.now ≤ block_of c + block_of c) }
-    ensures { OpenEnded c k (key_in c share.now) nonce.now s part.now rest.old result rest.new }
+fn end<M: Mode>(under: &mut Under, s: State, part: &[u8], rest: &mut [u8]) -> bool
+    requires steppable { Steppable M.kind under.old s }
+    requires openable { Openable (block_of under.old.cipher) part.now rest.old }
+    requires short { length part.now ≤ block_of under.old.cipher + block_of under.old.cipher }
+    ensures ended { OpenEnded M.kind under.old s part.now rest.old result rest.new }
+    ensures same { under.new ≡ under.old }
 {
-    let n = ciphers::block_of(c);
+    let n = under.block();
     let r = part.len() - n;
-    let f = is_full(n, r);
-    let ahead = states::block_first(k);
+    let ahead = states::block_first(M::kind());
     let at = begin(!ahead, r);
-    let p = steps::open_last(c, k, share, nonce, keys, f, s, load(&part[at..], n));
-    let block = p.first;
-    let second = p.second;
-    store(rest, block, r);
+    let opened = M::open_last(under, is_full(n, r), s, load(&part[at..], n));
+    store(rest, opened.first, r);
     let from = begin(ahead, n);
-    judge(n, r, block, second, &part[from..from + r])
+    judge(n, r, opened.first, opened.second, &part[from..from + r])
 }
 
-pub fn run(
-    c: Cipher,
-    k: Kind,
-    share: &[u8; 784],
-    nonce: &[u8],
-    keys: &mut [[u8; 8]; 97],
-    start: State,
-    run: &[u8],
-    room: &mut [u8],
-) -> bool
-    requires { Walkable c k nonce.now run.now × (start.number ≤ 1) × Openable (block_of c) run.now room.old × (block_of c < length run.now) × Lent c share.now start.kept keys.old }
-    ensures { RunOpened c k (key_in c share.now) nonce.now start run.now room.old result room.new }
+pub fn run<M: Mode>(under: &mut Under, start: State, run: &[u8], room: &mut [u8]) -> bool
+    requires walkable { Walkable under.old.cipher M.kind under.old.nonce run.now }
+    requires begins { start.number ≤ 1 }
+    requires openable { Openable (block_of under.old.cipher) run.now room.old }
+    requires longer { block_of under.old.cipher < length run.now }
+    ensures opened { RunOpened M.kind under.old start run.now room.old result room.new }
+    ensures same { under.new ≡ under.old }
 {
-    let n = ciphers::block_of(c);
+    let n = under.block();
+    let last = last_block(n, run.len() - n);
     let mut s = start;
-    let mut at = 0;
-    while n < run.len() - n - at {
-        s = turn(c, k, share, nonce, keys, s, &run[at..], &mut room[at..]);
-        at += n;
+    for at in (0..last).step_by(n) {
+        s = turn::<M>(under, s, &run[at..], &mut room[at..]);
     }
-    end(c, k, share, nonce, keys, s, &run[at..], &mut room[at..])
+    end::<M>(under, s, &run[last..], &mut room[last..])
 }

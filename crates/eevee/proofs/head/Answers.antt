@@ -8,12 +8,12 @@ use Rattle.ciphers.specs.Ciphers.{block_of}
 use Rattle.modes.specs.Eevee.{eevee}
 use Rattle.eevee.proofs.head.Goals as goal
 
-pub returns : goal.returns
+pub returns-clause-stepped : goal.returns-clause-stepped
 unfolding eevee
-returns c =
-    let h = c.head_link-left.ensures in
-    let a = c.args in (
-      λ own. ap (λ (l : List ℕ). record { link = l; delta = take (block_of a.c) a.s.delta; number = a.s.number + 1 }) h.0,
-      omega arith,
-      h.1,
-    )
+returns-clause-stepped c own =
+    let a = c.args in record {
+      state =
+          ap (λ (l : List ℕ). record { link = l; delta = take (block_of a.under.now.cipher) a.s.delta; number = a.s.number + 1 })
+          c.head_link.ensures.linked;
+      number = omega arith;
+    }

@@ -1,16 +1,6 @@
 -- `eevee::input` meets its contract: `input_worked` of what the callees made. Assumes nothing.
-use native.Mathlib.Omega.{arith}
-use Rattle.ciphers.proofs.Laws.{block_most}
-use Rattle.prepared.specs.Prepared.{key_in}
 use Rattle.eevee.proofs.Bodies.{input_worked}
 use Rattle.eevee.proofs.input.Goals as goal
 
-pub body_tweak-t-requires : goal.body_tweak-t-requires
-body_tweak-t-requires c = (omega (arith, c.requires.0, block_most c.args.c), c.requires.1)
-
-pub returns : goal.returns
-returns c =
-    let a = c.args in (
-      input_worked a.c (key_in a.c a.share.now) a.nonce.now a.v a.x _ c.requires.0 c.body_tweak-t.ensures _ c.unfork_on-u.ensures.0,
-      c.unfork_on-u.ensures.1,
-    )
+pub returns-clause-worked : goal.returns-clause-worked
+returns-clause-worked c = let a = c.args in input_worked a.under.now a.v a.x _ c.body_tweak-t.ensures _ c.unfork-u.ensures.unforked

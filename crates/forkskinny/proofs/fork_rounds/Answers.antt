@@ -3,14 +3,15 @@ use mathlib.Core.Path.{◌∙◌}
 use native.Mathlib.Omega.{arith}
 use Rattle.ciphers.proofs.Laws.{fit}
 use Rattle.forkskinny.specs.Calls.{rounds_for, fork_rounds}
+use Rattle.forkskinny.specs.Wanted.{want_of}
 use Rattle.forkskinny.proofs.fork_rounds.Goals as goal
 
 pub rounds_for-requires : goal.rounds_for-requires
-rounds_for-requires c = omega (arith, fit c.args.c, c.init_of-n.ensures, c.branch_of-half.ensures)
+rounds_for-requires c = omega (arith, fit c.args.c, c.init_of.ensures, c.branch_of-half.ensures)
 
 pub returns : goal.returns
 unfolding fork_rounds
 returns c =
-    let n = c.init_of-n.ensures in
+    let n = c.init_of.ensures in
     let half = c.branch_of-half.ensures in
-    c.rounds_for.ensures ∙ (λ i. rounds_for (n i) (half i) (half i) c.args.want)
+    c.rounds_for.ensures ∙ (λ i. rounds_for (n i) (half i) (half i) (want_of c.args.want))

@@ -1,10 +1,6 @@
--- `jobs::all` ends: each job takes the place further. Assumes nothing.
-use Prim.Native.Nat.{◌-◌}
+-- `jobs::all` ends: each turn leaves fewer bytes. Assumes nothing.
 use lib.ListN.{length}
 use Rattle.jobs.proofs.all.Given as goal
 
-abbrev pub invariant-loop-at : goal.invariant-loop-at
-invariant-loop-at l = Unit {0}
-
-abbrev pub decreases-loop-at : goal.decreases-loop-at
-decreases-loop-at l = length l.s - l.at
+abbrev pub decreases-loop-job : goal.decreases-loop-job
+decreases-loop-job l = length l.rest

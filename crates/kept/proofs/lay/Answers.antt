@@ -6,5 +6,5 @@ use Rattle.kept.proofs.lay.Goals as goal
 pub returns : goal.returns
 returns c =
     let a = c.args in
-    laid_anew a.c a.share.now a.tweak a.m c.requires.0 c.requires.1 c.requires.2 c.bytes_known.ensures (omega arith)
+    laid_anew a.c a.share.now a.tweak.now a.m c.requires.0 c.requires.1 c.requires.2 (record { at = c.fits-tweak }) (omega arith)
     c.lay_keys.ensures.0 c.lay_keys.ensures.1

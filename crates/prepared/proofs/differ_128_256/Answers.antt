@@ -10,4 +10,4 @@ slice_bounds-differences-end-2 c = sym (length-take-le _ c.args.share.now (omega
 
 pub returns : goal.returns
 returns c =
-    differs_128_256 c.args.share.now c.differences.result c.bytes_known.ensures (omega arith) c.differences.ensures
+    differs_128_256 c.args.share.now c.differences.result (record { at = c.fits-share }) (omega arith) c.differences.ensures

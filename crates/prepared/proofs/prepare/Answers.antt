@@ -1,16 +1,15 @@
 -- `prepared::prepare` meets its contract: one return for each case. Assumes nothing.
-use borrow.Author.Tests.{eq-eqb, ne_eqb}
-use Rattle.prepared.specs.Prepared.{prepare_of}
+use Rattle.ciphers.proofs.Named.{handed_on}
+use Rattle.prepared.proofs.Found.{made, not_made, prepare_names}
 use Rattle.prepared.proofs.prepare.Goals as goal
 
-pub returns-then-cipher-eq1 : goal.returns-then-cipher-eq1
-unfolding prepare_of
-returns-then-cipher-eq1 c = simp (eq-eqb _ _ c.if-cipher-eq1.true) c.prepare_by.ensures
+pub returns-in_err-c : goal.returns-in_err-c
+returns-in_err-c c = rw (handed_on _ _ c.from_residual.ensures.1, prepare_names, ← c.in_err-c.ensures)
 
-pub returns-then-cipher-eq2 : goal.returns-then-cipher-eq2
-unfolding prepare_of
-returns-then-cipher-eq2 c = simp (ne_eqb _ _ c.if-cipher-eq1.false, eq-eqb _ _ c.if-cipher-eq2.true) c.prepare_by-then-cipher-eq2.ensures
+pub returns-then-key-ne16 : goal.returns-then-key-ne16
+returns-then-key-ne16 c = rw (prepare_names, ← c.in_ok-c.ensures) (not_made c.in_ok-c.c c.args.key.now c.if-key-ne16.true)
 
 pub returns : goal.returns
-unfolding prepare_of
-returns c = simp (ne_eqb _ _ c.if-cipher-eq1.false, ne_eqb _ _ c.if-cipher-eq2.false) c.refused.ensures
+returns c =
+    rw (prepare_names, ← c.in_ok-c.ensures)
+    (made c.in_ok-c.c c.args.key.now c.if-key-ne16.false c.front.ensures c.share_of-share.ensures c.from.ensures)

@@ -1,8 +1,7 @@
 -- `forkae::saef::tweak` meets its contract: a byte is stored behind the nonce, or behind zeros. Assumes nothing.
-use mathlib.Core.Path.{ap, sym, ◌∙◌}
-use mathlib.Core.Bool.{Bool}
 use Prim.Native.Nat.{◌+◌}
-use lib.ListN.{length}
+use native.Mathlib.Omega.{arith}
+use Rattle.ciphers.proofs.Laws.{block_most}
 use Rattle.modes.specs.Saef.{saef_tweak}
 use Rattle.states.proofs.Tweaks.{one_behind, one_behind_zeros}
 use Rattle.forkae.proofs.saef.tweak.Goals as goal
@@ -11,12 +10,12 @@ pub returns-then-first : goal.returns-then-first
 unfolding saef_tweak
 returns-then-first c =
     let a = c.args in
-    one_behind a.nonce.now c.front-t.result c.front-t.ensures (8 + a.flag) c.requires.0
-    ∙ sym (ap (λ (b : Bool). saef_tweak a.nonce.now b a.flag) c.if-first.true)
+    rw (c.if-first.true, c.nonce-nonce.ensures, ← c.requires.0)
+    (one_behind _ _ (rw c.nonce-nonce.ensures at c.front-t.ensures) (8 + a.flag) (omega (arith, c.requires.0, block_most a.under.now.cipher)))
 
 pub returns : goal.returns
 unfolding saef_tweak
 returns c =
     let a = c.args in
-    one_behind_zeros (length a.nonce.now) a.flag c.requires.0
-    ∙ sym (ap (λ (b : Bool). saef_tweak a.nonce.now b a.flag) c.if-first.false)
+    rw (c.if-first.false, c.nonce-nonce.ensures, ← c.requires.0)
+    (one_behind_zeros _ a.flag (omega (arith, c.requires.0, block_most a.under.now.cipher)))

@@ -1,20 +1,15 @@
 -- `forkskinny::calls::fork_by_key` meets its contract: one return for each case. Assumes nothing.
-use borrow.Author.Tests.{eq-eqb, ne_eqb, lt-ltb, le-ltb}
-use Rattle.forkskinny.specs.Calls.{fork_of}
+use Rattle.ciphers.proofs.Named.{handed_on}
+use Rattle.forkskinny.proofs.Told.{fork_names}
 use Rattle.forkskinny.proofs.calls.fork_by_key.Goals as goal
 
-pub returns-then-want-gt2 : goal.returns-then-want-gt2
-unfolding fork_of
-returns-then-want-gt2 c = simp (lt-ltb _ _ c.if-want-gt2.true) c.fork_refused.ensures
+pub returns-in_err-want : goal.returns-in_err-want
+returns-in_err-want c = rw (handed_on _ _ c.from_residual.ensures.1, fork_names, ← c.in_err-want.ensures)
 
-pub returns-then-cipher-eq1 : goal.returns-then-cipher-eq1
-unfolding fork_of
-returns-then-cipher-eq1 c = simp (le-ltb _ _ c.if-want-gt2.false, eq-eqb _ _ c.if-cipher-eq1.true) c.fork_of_key.ensures
-
-pub returns-then-cipher-eq2 : goal.returns-then-cipher-eq2
-unfolding fork_of
-returns-then-cipher-eq2 c = simp (le-ltb _ _ c.if-want-gt2.false, ne_eqb _ _ c.if-cipher-eq1.false, eq-eqb _ _ c.if-cipher-eq2.true) c.fork_of_key-then-cipher-eq2.ensures
+pub returns-in_err-c : goal.returns-in_err-c
+returns-in_err-c c = rw (handed_on _ _ c.from_residual-in_err-c.ensures.1, fork_names, ← c.in_ok-want.ensures, ← c.in_err-c.ensures)
 
 pub returns : goal.returns
-unfolding fork_of
-returns c = simp (le-ltb _ _ c.if-want-gt2.false, ne_eqb _ _ c.if-cipher-eq1.false, ne_eqb _ _ c.if-cipher-eq2.false) c.fork_refused-2.ensures
+returns c =
+    rw (fork_names, ← c.in_ok-want.ensures, ← c.in_ok-c.ensures)
+    (rw (← c.share_made-share.ensures.key) c.fork_keyed.ensures)

@@ -1,24 +1,18 @@
 -- `forkskinny::calls::unfork_by_key` meets its contract: one return for each case. Assumes nothing.
-use borrow.Author.Tests.{eq-eqb, ne_eqb, lt-ltb, le-ltb}
-use Rattle.forkskinny.specs.Calls.{unfork_of}
+use Rattle.ciphers.proofs.Named.{handed_on}
+use Rattle.forkskinny.proofs.Told.{unfork_names}
 use Rattle.forkskinny.proofs.calls.unfork_by_key.Goals as goal
 
-pub returns-then-from-gt1 : goal.returns-then-from-gt1
-unfolding unfork_of
-returns-then-from-gt1 c = simp (lt-ltb _ _ c.if-from-gt1.true) c.unfork_refused.ensures
+pub returns-in_err-from : goal.returns-in_err-from
+returns-in_err-from c = rw (handed_on _ _ c.from_residual.ensures.1, unfork_names, ← c.in_err-from.ensures)
 
-pub returns-then-want-gt2 : goal.returns-then-want-gt2
-unfolding unfork_of
-returns-then-want-gt2 c = simp (le-ltb _ _ c.if-from-gt1.false, lt-ltb _ _ c.if-want-gt2.true) c.unfork_refused-then-want-gt2.ensures
+pub returns-in_err-want : goal.returns-in_err-want
+returns-in_err-want c = rw (handed_on _ _ c.from_residual-in_err-want.ensures.1, unfork_names, ← c.in_ok-from.ensures, ← c.in_err-want.ensures)
 
-pub returns-then-cipher-eq1 : goal.returns-then-cipher-eq1
-unfolding unfork_of
-returns-then-cipher-eq1 c = simp (le-ltb _ _ c.if-from-gt1.false, le-ltb _ _ c.if-want-gt2.false, eq-eqb _ _ c.if-cipher-eq1.true) c.unfork_of_key.ensures
-
-pub returns-then-cipher-eq2 : goal.returns-then-cipher-eq2
-unfolding unfork_of
-returns-then-cipher-eq2 c = simp (le-ltb _ _ c.if-from-gt1.false, le-ltb _ _ c.if-want-gt2.false, ne_eqb _ _ c.if-cipher-eq1.false, eq-eqb _ _ c.if-cipher-eq2.true) c.unfork_of_key-then-cipher-eq2.ensures
+pub returns-in_err-c : goal.returns-in_err-c
+returns-in_err-c c = rw (handed_on _ _ c.from_residual-in_err-c.ensures.1, unfork_names, ← c.in_ok-from.ensures, ← c.in_ok-want.ensures, ← c.in_err-c.ensures)
 
 pub returns : goal.returns
-unfolding unfork_of
-returns c = simp (le-ltb _ _ c.if-from-gt1.false, le-ltb _ _ c.if-want-gt2.false, ne_eqb _ _ c.if-cipher-eq1.false, ne_eqb _ _ c.if-cipher-eq2.false) c.unfork_refused-2.ensures
+returns c =
+    rw (unfork_names, ← c.in_ok-from.ensures, ← c.in_ok-want.ensures, ← c.in_ok-c.ensures)
+    (rw (← c.share_made-share.ensures.key) c.unfork_keyed.ensures)

@@ -1,64 +1,57 @@
--- `walks::opening::run` meets its contract: what has been opened, in front of what the rest opens to, is what the run opens to; the
--- measure is what is left of the run. Assumes nothing.
+-- `walks::opening::run` meets its contract: what has been opened, in front of what the rest opens to, is what the run opens to.
+-- Assumes nothing.
+use mathlib.Core.Path.{◌≡◌, refl, ◌∙◌}
+use Prim.Native.Nat.{◌+◌, ◌<◌}
 use native.Mathlib.Omega.{arith}
-use Rattle.ciphers.proofs.Laws.{block_some}
-use Rattle.prepared.specs.Prepared.{key_in}
-use Rattle.walks.proofs.Opened.{opening_none, turn_may, opening_more, end_may, opening_end}
+use lib.ListN.{length}
+use Rattle.walks.proofs.Opened.{OpenGoing, opening_none, opening_more, opening_stop, opening_end}
 use Rattle.walks.proofs.opening.run.Goals as goal
+use Rattle.walks.proofs.opening.run.Goals.{else-loop-at-test, then-loop-at-test+else-n-last}
 
 pub loop-at-init : goal.loop-at-init
-loop-at-init c =
+loop-at-init g c =
     let a = c.args in
-    (opening_none a.c a.k (key_in a.c a.share.now) a.nonce.now a.run.now a.start a.room.now c.requires.1 c.requires.3, c.requires.4)
-
-pub slice_bounds-turn-start : goal.slice_bounds-turn-start
-slice_bounds-turn-start c = omega (arith, c.loop-at.invariant.0.inside)
-
-pub slice_bounds-turn-end : goal.slice_bounds-turn-end
-slice_bounds-turn-end c = omega (arith, c.loop-at.invariant.0.inside)
-
-pub turn-s-requires : goal.turn-s-requires
-turn-s-requires c =
-    let a = c.args in
-    turn_may a.c a.k (key_in a.c a.share.now) a.nonce.now a.run.now a.start a.room.now c.loop-at.invariant.0 c.block_of-n.result c.block_of-n.ensures c.requires.0 c.requires.2 c.loop-at-test.true c.loop-at.invariant.1
-
-pub overflow_add-at : goal.overflow_add-at
-overflow_add-at c =
-    omega (arith, c.loop-at.invariant.0.inside, c.block_of-n.ensures, c.requires.0.few)
-
-pub loop-at-smaller : goal.loop-at-smaller
-loop-at-smaller c =
-    omega (
-      arith,
-      c.loop-at.invariant.0.inside,
-      c.block_of-n.ensures,
-      block_some
-          c.args.c,
-    )
+    record {
+      under = refl;
+      going =
+          opening_none g.M.Mode.kind a.under.now a.run.now a.start a.room.now _ _ c.block-n.ensures c.last_block-last.ensures.place
+          c.requires.begins;
+    }
 
 pub loop-at-preserved : goal.loop-at-preserved
-loop-at-preserved c =
+loop-at-preserved g c =
     let a = c.args in
-    (opening_more a.c a.k (key_in a.c a.share.now) a.nonce.now a.run.now a.start a.room.now c.loop-at.invariant.0 c.block_of-n.result c.block_of-n.ensures c.requires.0 c.requires.2 c.loop-at-test.true _ _ c.turn-s.ensures.0, c.turn-s.ensures.1)
+    let e = c.loop-at.invariant in
+    record {
+      under = c.turn-s.ensures.same ∙ e.under;
+      going =
+          opening_more g.M.Mode.kind a.under.now a.run.now a.start a.room.now _ _ c.block-n.ensures c.last_block-last.ensures.place
+          (omega arith) c.requires.openable _ _ _ e.going c.loop-at-test.true (rw e.under at c.turn-s.ensures.turned);
+    }
 
-pub slice_bounds-end-start : goal.slice_bounds-end-start
-slice_bounds-end-start c = omega (arith, c.loop-at.invariant.0.inside)
-
-pub slice_bounds-end-end : goal.slice_bounds-end-end
-slice_bounds-end-end c = omega (arith, c.loop-at.invariant.0.inside)
-
-pub slice_bounds-end-start-2 : goal.slice_bounds-end-start-2
-slice_bounds-end-start-2 c = omega (arith, c.loop-at.invariant.0.inside)
-
-pub slice_bounds-end-end-2 : goal.slice_bounds-end-end-2
-slice_bounds-end-end-2 c = omega (arith, c.loop-at.invariant.0.inside)
-
-pub end-requires : goal.end-requires
-end-requires c =
+pub returns-clause-opened : goal.returns-clause-opened
+returns-clause-opened g c =
     let a = c.args in
-    end_may a.c a.k (key_in a.c a.share.now) a.nonce.now a.run.now a.start a.room.now c.loop-at.invariant.0 c.block_of-n.result c.block_of-n.ensures c.requires.0 c.requires.2 c.loop-at-test.false c.loop-at.invariant.1
-
-pub returns : goal.returns
-returns c =
-    let a = c.args in
-    opening_end a.c a.k (key_in a.c a.share.now) a.nonce.now a.run.now a.start a.room.now c.loop-at.invariant.0 c.block_of-n.result c.block_of-n.ensures c.requires.0 c.requires.2 c.loop-at-test.false _ _ c.end.ensures
+    let l = c.loop-at-test in
+    let e = c.loop-at.invariant in
+    let k = g.M.Mode.kind in
+    let u = a.under.now in
+    let last = c.last_block-last.result in
+    let N = c.block-n.ensures in
+    let place = c.last_block-last.ensures.place in
+    let more : last + c.block-n.result < length a.run.now = omega arith in
+    let stop : (l.under ≡ u) × OpenGoing k u a.run.now a.start a.room.now last l.s last l.room
+    = elim l.branch [
+      | else-loop-at-test w ↦
+          rw (w.under-is, w.room-is, w.s-is)
+          (e.under, opening_stop k u a.run.now a.start a.room.now last _ N place more c.requires.openable _ e.going w.loop-at-test.false)
+      | then-loop-at-test+else-n-last w ↦
+          rw (w.under-is, w.room-is, w.s-is) (
+            w.turn-s.ensures.same ∙ e.under,
+            opening_stop k u a.run.now a.start a.room.now last _ N place more c.requires.openable _
+                (opening_more k u a.run.now a.start a.room.now last _ N place more c.requires.openable _ _ _ e.going w.loop-at-test.true
+                (rw e.under at w.turn-s.ensures.turned))
+                (omega arith),
+          )
+    ] in
+    opening_end k u a.run.now a.start a.room.now last _ N place more c.requires.openable _ (omega arith) stop.1 _ _ (rw stop.0 at c.end.ensures.ended)

@@ -1,38 +1,29 @@
--- `walks::records::open` meets its contract: the header, and then one block or the walk over the run. Assumes nothing.
-use native.Mathlib.Omega.{arith}
-use lib.ListN.{length-take}
-use Rattle.ciphers.proofs.Laws.{block_most}
-use Rattle.ciphers.specs.Ciphers.{block_of}
+-- `walks::records::open` meets its contract: by the mode's name. Assumes nothing.
 use Rattle.prepared.specs.Prepared.{key_in}
-use Rattle.states.specs.Modes.{mode_of}
-use Rattle.walks.proofs.FromHeader.{open_none, open_some}
+use Rattle.states.specs.declared.Kind.TheVariants.{Paef, Saef, Umbreon, Jolteon}
+use Rattle.walks.proofs.ByName.{opened_by}
 use Rattle.walks.proofs.records.open.Goals as goal
 
-pub slice_bounds-block-end : goal.slice_bounds-block-end
-slice_bounds-block-end c =
-    omega (arith, c.block_of-n.ensures, block_most c.args.c)
-
-pub slice_bounds-equal-end : goal.slice_bounds-equal-end
-slice_bounds-equal-end c =
-    simp length-take (omega (arith, c.alone-block.type_inv, c.block_of-n.ensures, block_most c.args.c))
-
-pub returns-then-run-n : goal.returns-then-run-n
-returns-then-run-n c =
+pub returns-in-Paef : goal.returns-in-Paef
+returns-in-Paef c =
     let a = c.args in
-    let n = block_of a.c in
-    let M = mode_of a.k a.c (key_in a.c a.share.now) a.nonce.now in
-    open_none n M a.header.now _ _ _ c.block_of-n.ensures c.head-t.ensures.0.state
-    c.alone-block.ensures a.run.now _ _ c.if-run-n.true c.equal.ensures
+    opened_by a.c (key_in a.c a.share.now) a.nonce.now c.new-under.ensures a.header.now a.k Paef c.in-Paef.is a.run.now a.room.now _ _
+    c.open_under.ensures
 
-pub run-requires : goal.run-requires
-run-requires c =
-    let h = c.head-s.ensures in
-    (c.requires.1, h.0.number, c.requires.2, omega (arith, c.if-run-n.false, c.block_of-n.ensures, c.requires.2.block), h.1)
-
-pub returns : goal.returns
-returns c =
+pub returns-in-Saef : goal.returns-in-Saef
+returns-in-Saef c =
     let a = c.args in
-    let n = block_of a.c in
-    let M = mode_of a.k a.c (key_in a.c a.share.now) a.nonce.now in
-    open_some n M a.header.now _ c.head-s.ensures.0.state a.run.now _ _ _
-    (omega (arith, c.if-run-n.false, c.block_of-n.ensures, c.requires.2.block)) c.run.ensures
+    opened_by a.c (key_in a.c a.share.now) a.nonce.now c.new-under.ensures a.header.now a.k Saef c.in-Saef.is a.run.now a.room.now _ _
+    c.open_under-in-Saef.ensures
+
+pub returns-in-Umbreon : goal.returns-in-Umbreon
+returns-in-Umbreon c =
+    let a = c.args in
+    opened_by a.c (key_in a.c a.share.now) a.nonce.now c.new-under.ensures a.header.now a.k Umbreon c.in-Umbreon.is a.run.now a.room.now _ _
+    c.open_under-in-Umbreon.ensures
+
+pub returns-in-Jolteon : goal.returns-in-Jolteon
+returns-in-Jolteon c =
+    let a = c.args in
+    opened_by a.c (key_in a.c a.share.now) a.nonce.now c.new-under.ensures a.header.now a.k Jolteon c.in-Jolteon.is a.run.now a.room.now _ _
+    c.open_under-in-Jolteon.ensures

@@ -1,41 +1,29 @@
--- `walks::records::seal` meets its contract: the header, and then one block or the walk over the body. Assumes nothing.
-use native.Mathlib.Omega.{arith}
-use lib.Seq.{length-take-le}
-use Rattle.ciphers.proofs.Laws.{block_most}
-use Rattle.ciphers.specs.Ciphers.{block_of}
+-- `walks::records::seal` meets its contract: by the mode's name. Assumes nothing.
 use Rattle.prepared.specs.Prepared.{key_in}
-use Rattle.states.specs.Modes.{mode_of}
-use Rattle.walks.proofs.FromHeader.{seal_none, seal_some}
+use Rattle.states.specs.declared.Kind.TheVariants.{Paef, Saef, Umbreon, Jolteon}
+use Rattle.walks.proofs.ByName.{sealed_by}
 use Rattle.walks.proofs.records.seal.Goals as goal
 
-pub store-requires : goal.store-requires
-store-requires c = (
-  omega (arith, c.block_of-n.ensures, block_most c.args.c),
-  omega
-      (arith, c.block_of-n.ensures, c.requires.2),
-)
-
-pub returns-then-body-eq0 : goal.returns-then-body-eq0
-returns-then-body-eq0 c =
+pub returns-in-Paef : goal.returns-in-Paef
+returns-in-Paef c =
     let a = c.args in
-    let n = block_of a.c in
-    let M = mode_of a.k a.c (key_in a.c a.share.now) a.nonce.now in
-    seal_none n M a.header.now _ _ _ c.block_of-n.ensures c.head-s.ensures.0.state
-    c.alone.ensures a.body.now _ _ c.if-body-eq0.true
-    (record {
-      said = c.store.ensures;
-      long = length-take-le _ _ (omega (arith, c.alone.type_inv, c.block_of-n.ensures, block_most a.c));
-    })
+    sealed_by a.c (key_in a.c a.share.now) a.nonce.now c.new-under.ensures a.header.now a.k Paef c.in-Paef.is a.body.now a.room.now _
+    c.seal_under.ensures
 
-pub body-requires : goal.body-requires
-body-requires c =
-    let h = c.head-s-2.ensures in
-    (c.requires.1, h.0.number, omega (arith, c.if-body-eq0.false), c.requires.2, h.1)
-
-pub returns : goal.returns
-returns c =
+pub returns-in-Saef : goal.returns-in-Saef
+returns-in-Saef c =
     let a = c.args in
-    let n = block_of a.c in
-    let M = mode_of a.k a.c (key_in a.c a.share.now) a.nonce.now in
-    seal_some n M a.header.now _ c.head-s-2.ensures.0.state a.body.now _ _ (omega (arith, c.if-body-eq0.false))
-    c.body.ensures
+    sealed_by a.c (key_in a.c a.share.now) a.nonce.now c.new-under.ensures a.header.now a.k Saef c.in-Saef.is a.body.now a.room.now _
+    c.seal_under-in-Saef.ensures
+
+pub returns-in-Umbreon : goal.returns-in-Umbreon
+returns-in-Umbreon c =
+    let a = c.args in
+    sealed_by a.c (key_in a.c a.share.now) a.nonce.now c.new-under.ensures a.header.now a.k Umbreon c.in-Umbreon.is a.body.now a.room.now _
+    c.seal_under-in-Umbreon.ensures
+
+pub returns-in-Jolteon : goal.returns-in-Jolteon
+returns-in-Jolteon c =
+    let a = c.args in
+    sealed_by a.c (key_in a.c a.share.now) a.nonce.now c.new-under.ensures a.header.now a.k Jolteon c.in-Jolteon.is a.body.now a.room.now _
+    c.seal_under-in-Jolteon.ensures

@@ -1,29 +1,20 @@
 -- `walks::sealing::end` meets its contract: `seal_ended` of what the callees ensure. Assumes nothing.
 use mathlib.Core.Path.{ap, ◌∙◌}
 use Prim.Native.Nat.{ℕ}
-use native.Mathlib.Omega.{arith}
 use lib.ListN.{length}
-use Rattle.ciphers.proofs.Laws.{block_most}
-use Rattle.modes.specs.Blocks.{full}
 use Rattle.ciphers.specs.Ciphers.{block_of}
-use Rattle.prepared.specs.Prepared.{key_in}
+use Rattle.modes.specs.Blocks.{full}
+use Rattle.states.specs.Modes.{block_first}
 use Rattle.walks.proofs.Places.{loaded}
 use Rattle.walks.proofs.Sealed.{seal_ended}
 use Rattle.walks.proofs.sealing.end.Goals as goal
 
-pub load-x-requires : goal.load-x-requires
-load-x-requires c = omega (arith, c.block_of-n.ensures, block_most c.args.c)
-
-pub put-requires : goal.put-requires
-put-requires c =
-    let e = c.block_of-n.ensures in
-    (omega (arith, e, c.requires.1), omega (arith, e, block_most c.args.c), omega (arith, e, c.requires.2))
-
-pub returns : goal.returns
-returns c =
+pub returns-clause-ended : goal.returns-clause-ended
+returns-clause-ended g c =
     let a = c.args in
-    let e = c.block_of-n.ensures in
-    let f = c.is_full-f.ensures ∙ ap (λ (m : ℕ). full m (length a.part.now)) e in
-    let l = loaded _ (block_of a.c) _ a.part.now e c.load-x.ensures in
-    seal_ended a.c a.k (key_in a.c a.share.now) a.nonce.now _ _ _ a.s a.part.now _ _ _ _ _ e f l c.seal_last-p.ensures.0
-    c.requires.1 c.block_first.ensures c.put.ensures
+    let u = a.under.now in
+    let e = c.block-n.ensures in
+    let f = c.is_full.ensures ∙ ap (λ (m : ℕ). full m (length a.part.now)) e in
+    let l = loaded _ (block_of u.cipher) _ a.part.now e c.load-x.ensures in
+    let o = c.block_first-ahead.ensures ∙ ap block_first c.kind.ensures in
+    seal_ended g.M.Mode.kind u _ _ _ a.s a.part.now _ _ _ _ _ e f l c.seal_last-sealed.ensures.stepped c.requires.short o c.put.ensures

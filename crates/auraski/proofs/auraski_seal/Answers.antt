@@ -1,7 +1,0 @@
--- `auraski::auraski_seal` meets its contract: the number, the length and the room of the answer. Assumes nothing.
-use mathlib.Core.Path.{ap}
-use Rattle.auraski.specs.Entries.{answer_in}
-use Rattle.auraski.proofs.auraski_seal.Goals as goal
-
-pub returns : goal.returns
-returns c = ap answer_in c.seal_by_key-a.ensures

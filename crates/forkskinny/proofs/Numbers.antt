@@ -1,0 +1,48 @@
+-- Choices by any number: what one that names no choice wants, and the half that a number stands for. Assumes nothing.
+use Rattle.std.proofs.Common.{◌≡◌, ℕ, zero, suc, false, cond, eqb, ne_eqb, ◌<◌, List, Ok, Err, refl, ap, arith}
+use Rattle.refusals.specs.declared.Refusal.{Refusal}
+use Rattle.ciphers.specs.declared.Cipher.{Cipher}
+use Rattle.ciphers.specs.Ciphers.{init_of, branch_of}
+use Rattle.forkskinny.specs.declared.wanted.Want.{Want}
+use Rattle.forkskinny.specs.ForkSkinny.{input, other}
+use Rattle.forkskinny.specs.Wanted.{want_of, want_named}
+use Rattle.forkskinny.specs.Calls.{wants, zeros, fork_by, fork_rounds, unfork_by, unfork_rounds}
+
+-- a number that is named is its choice's
+pub want_is : (want : ℕ) {w : Want} → Ok w ≡ want_named want → want_of w ≡ want
+want_is zero e = cc
+want_is (suc zero) e = cc
+want_is (suc (suc zero)) e = cc
+want_is (suc (suc (suc n))) e = cc
+
+-- a number that names no choice wants neither result
+unwanted : (k n : ℕ) → k < 2 → wants k (suc (suc (suc n))) ≡ false
+unfolding wants
+unwanted k n low = rw (ne_eqb (suc (suc (suc n))) k (λ e. omega arith), ne_eqb (suc (suc (suc n))) 2 (λ e. omega arith)) refl
+
+-- so the blocks are zeros, and only the rounds that every call runs are run
+pub fork_nothing : (c : Cipher) (key tweak block : List ℕ) (want : ℕ) {r : Refusal} → Err r ≡ want_named want
+    → fork_by c key tweak block want ≡ record { number = 0; half0 = zeros; half1 = zeros; rounds = init_of c }
+unfolding fork_rounds
+fork_nothing c key tweak block zero e = cc
+fork_nothing c key tweak block (suc zero) e = cc
+fork_nothing c key tweak block (suc (suc zero)) e = cc
+fork_nothing c key tweak block (suc (suc (suc n))) e =
+    rw (unwanted 0 n (omega arith), unwanted 1 n (omega arith))
+    (ap (λ (x : ℕ). record { number = 0; half0 = zeros; half1 = zeros; rounds = x }) (omega arith))
+
+pub unfork_nothing : (c : Cipher) (key tweak block : List ℕ) (from want : ℕ) {r : Refusal} → Err r ≡ want_named want
+    → unfork_by c key tweak block from want ≡ record { number = 0; input = zeros; other = zeros; rounds = branch_of c }
+unfolding unfork_rounds
+unfork_nothing c key tweak block from zero e = cc
+unfork_nothing c key tweak block from (suc zero) e = cc
+unfork_nothing c key tweak block from (suc (suc zero)) e = cc
+unfork_nothing c key tweak block from (suc (suc (suc n))) e =
+    rw (unwanted 0 n (omega arith), unwanted 1 n (omega arith))
+    (ap (λ (x : ℕ). record { number = 0; input = zeros; other = zeros; rounds = x }) (omega arith))
+
+-- every number but 0 is half 1
+pub one_half : (c : Cipher) (key tweak block : List ℕ) (from want : ℕ) → unfork_by c key tweak block (cond (eqb from 0) 0 1) want ≡ unfork_by c key tweak block from want
+unfolding input other
+one_half c key tweak block zero want = refl
+one_half c key tweak block (suc n) want = rw (ne_eqb (suc n) 0 (λ e. omega arith)) refl

@@ -1,0 +1,8 @@
+-- `forkskinny::laid::Laid::run_both` meets its contract: by cases. Assumes nothing.
+use Rattle.forkskinny.proofs.laid.Laid.run_both.Goals as goal
+
+pub returns-in-N64T192 : goal.returns-in-N64T192
+returns-in-N64T192 c = rw c.in-N64T192.is c.run_both.ensures
+
+pub returns-in-N128T256 : goal.returns-in-N128T256
+returns-in-N128T256 c = rw c.in-N128T256.is c.run_both-in-N128T256.ensures

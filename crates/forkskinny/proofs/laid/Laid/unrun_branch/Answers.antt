@@ -1,0 +1,30 @@
+-- `forkskinny::laid::Laid::unrun_branch` meets its contract: the branch's rounds undone, from its place on. Assumes nothing.
+use mathlib.Core.Path.{◌∙◌, ap}
+use native.Mathlib.Omega.{arith}
+use Rattle.schedule.specs.Schedule.{advance}
+use Rattle.runs.specs.Runs.{unrounds}
+use Rattle.runs.proofs.Loops.{fewer}
+use Rattle.ciphers.specs.Ciphers.{width_of, words_of}
+use Rattle.ciphers.proofs.Laws.{branch_more}
+use Rattle.forkskinny.specs.ForkSkinny.{enter, unbranch}
+use Rattle.forkskinny.proofs.Places.{branch_fit}
+use Rattle.forkskinny.proofs.laid.Laid.unrun_branch.Goals as goal
+
+pub unrun-requires : goal.unrun-requires
+unrun-requires c =
+    let a = c.args in
+    let p = c.start_of-at.ensures in
+    let q = c.branch_of-n.ensures in
+    (omega (arith, branch_more a.self.now.cipher, q), omega (arith, branch_fit a.self.now.cipher a.b, p, q))
+
+pub returns : goal.returns
+unfolding unbranch
+returns c =
+    let a = c.args in
+    let w = width_of a.self.now.cipher in
+    let n = words_of a.self.now.cipher in
+    let p = c.start_of-at.ensures in
+    let q = c.branch_of-n.ensures in
+    λ t known. c.enter_branch.ensures
+    ∙ ap (enter w a.b) (c.unrun.ensures.by n t (fewer known _ (omega (arith, p, q)))
+    ∙ (λ i. unrounds w n (q i) (advance w n (p i) t) (c.load_state.ensures i)))

@@ -1,8 +1,0 @@
--- `forkskinny::other_of` meets its contract: by cases. Assumes nothing.
-use mathlib.Core.Path.{refl}
-use Rattle.forkskinny.specs.ForkSkinny.{other_of}
-use Rattle.forkskinny.proofs.Places.{past_zero}
-use Rattle.forkskinny.proofs.other_of.Goals as goal
-
-pub returns-else-h-eq0 : goal.returns-else-h-eq0
-returns-else-h-eq0 c = past_zero other_of 0 (λ k. refl) _ c.if-h-eq0.false

@@ -1,2 +1,0 @@
-mod ByMode
-mod Starts
