@@ -4,7 +4,7 @@
 pub mod with_prepared;
 
 ghost use Rattle.std.specs.Prelude.{◌≡◌, List, ℕ};
-ghost use Rattle.forkskinny.specs.Calls.{fork_told, fork_of, unfork_told, unfork_of};
+ghost use Rattle.forkskinny.specs.Calls.{fork_result, fork_of, unfork_result, unfork_of};
 ghost use Rattle.sealing.specs.Budget.{budget_of};
 ghost use Rattle.sealing.specs.Calls.{told, seal_of, open_of};
 ghost use Rattle.auraski.specs.Entries.{blocks, halves_in, back_in, answered, answer_in, counted};
@@ -15,7 +15,7 @@ use sealing::Answer;
 
 // What a block call forward tells: the number, and both halves written, zeros where it is refused.
 fn tell_halves(answer: Result<Forked, Refusal>, half0: &mut [u8; 16], half1: &mut [u8; 16]) -> u32
-    ensures { blocks result half0.new half1.new ≡ halves_in (fork_told answer) }
+    ensures { blocks result half0.new half1.new ≡ halves_in (fork_result answer) }
 {
     match answer {
         Ok(f) => {
@@ -35,7 +35,7 @@ fn tell_halves(answer: Result<Forked, Refusal>, half0: &mut [u8; 16], half1: &mu
 
 // What a block call back tells: the number, and the input block and the other half written, zeros where it is refused.
 fn tell_back(answer: Result<Unforked, Refusal>, input: &mut [u8; 16], other: &mut [u8; 16]) -> u32
-    ensures { blocks result input.new other.new ≡ back_in (unfork_told answer) }
+    ensures { blocks result input.new other.new ≡ back_in (unfork_result answer) }
 {
     match answer {
         Ok(f) => {

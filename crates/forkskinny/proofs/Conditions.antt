@@ -18,7 +18,7 @@ use Rattle.std.specs.Prelude.{Result}
 use Rattle.refusals.specs.declared.Refusal.{Refusal}
 use Rattle.forkskinny.specs.declared.Forked.{Forked}
 use Rattle.forkskinny.specs.declared.Unforked.{Unforked}
-use Rattle.forkskinny.specs.Calls.{ForkTold, UnforkTold, zeros, given, wants, fork_rounds, fork_refused, fork_told, fork_by, fork_of, unfork_rounds, unfork_refused, unfork_told, unfork_by, unfork_of}
+use Rattle.forkskinny.specs.Calls.{ForkTold, UnforkTold, zeros, given, wants, fork_rounds, fork_refused, fork_result, fork_by, fork_of, unfork_rounds, unfork_refused, unfork_result, unfork_by, unfork_of}
 use Rattle.forkskinny.proofs.Told.{fork_named, unfork_named}
 use Rattle.forkskinny.proofs.Forkcipher.{input_half, other_half, half_input}
 use Rattle.forkskinny.proofs.Forkcipher.{half_behind, input_behind, other_behind, half_front, input_front, other_front}
@@ -185,7 +185,7 @@ module _ (cipher : ℕ) (key tweak block : List ℕ) (want : ℕ) where
   unfolding fork_of
   fork_no_choice p = rw (lt-ltb 2 want p)
 
-  pub same_fork : (a b : Result Forked Refusal) → fork_told a ≡ fork_of cipher key tweak block want → fork_told b ≡ fork_of cipher key tweak block want → a ≡ b
+  pub same_fork : (a b : Result Forked Refusal) → fork_result a ≡ fork_of cipher key tweak block want → fork_result b ≡ fork_of cipher key tweak block want → a ≡ b
   same_fork a b p q = fork_named a b (p ∙ sym q)
 
 module _ (cipher : ℕ) (key tweak block : List ℕ) (from want : ℕ) where
@@ -202,5 +202,5 @@ module _ (cipher : ℕ) (key tweak block : List ℕ) (from want : ℕ) where
   unfork_no_half p = rw (lt-ltb 1 from p)
 
   pub same_unfork : (a b : Result Unforked Refusal)
-      → unfork_told a ≡ unfork_of cipher key tweak block from want → unfork_told b ≡ unfork_of cipher key tweak block from want → a ≡ b
+      → unfork_result a ≡ unfork_of cipher key tweak block from want → unfork_result b ≡ unfork_of cipher key tweak block from want → a ≡ b
   same_unfork a b p q = unfork_named a b (p ∙ sym q)

@@ -1,7 +1,6 @@
 -- What the parts of a block call are told makes the call's answer: the hypotheses are the parts' contracts, word for word.
 -- Assumes nothing.
 use mathlib.Core.Path.{◌≡◌, subst, subst⁻¹, ◌∙◌}
-use native.Mathlib.Omega.{arith}
 use mathlib.Core.Bool.{Bool, true}
 use mathlib.Core.List.{List}
 use Prim.Native.Nat.{ℕ, ◌+◌}
@@ -11,9 +10,6 @@ use Rattle.rounds.specs.State.{State}
 use Rattle.runs.proofs.Loops.{fewer}
 use Rattle.ciphers.specs.declared.Cipher.{Cipher}
 use Rattle.ciphers.specs.Ciphers.{width_of, words_of, init_of, branch_of, tk}
-use Rattle.prepared.specs.Prepared.{key_in}
-use Rattle.kept.specs.declared.Kept.{Kept}
-use Rattle.kept.specs.Kept.{TurnedTo}
 use Rattle.forkskinny.specs.declared.Branch.{Branch}
 use Rattle.forkskinny.specs.ForkSkinny.{side_of, other_of, start_of, forked, branch, unbranch, unforked, half, input, other}
 use Rattle.forkskinny.specs.Reach.{is_far, reach_of}

@@ -12,7 +12,7 @@ use Rattle.ciphers.proofs.Named.{told_by, under_names}
 use Rattle.prepared.specs.declared.Prepared.{Prepared}
 use Rattle.prepared.specs.Prepared.{key_in, admitted}
 use Rattle.forkskinny.specs.Wanted.{want_of, want_named, half_of, half_named}
-use Rattle.forkskinny.specs.Calls.{ForkTold, UnforkTold, fork_refusal, fork_told, fork_by, fork_of, fork_with, unfork_refusal, unfork_told, unfork_by, unfork_of, unfork_with, judged}
+use Rattle.forkskinny.specs.Calls.{ForkTold, UnforkTold, fork_refusal, fork_result, fork_by, fork_of, fork_with, unfork_refusal, unfork_result, unfork_by, unfork_of, unfork_with, judged_cipher}
 
 module _ {A : Type 0} (told : Refusal → A) where
   -- ---- the choice, and the half
@@ -46,11 +46,11 @@ module _ {A : Type 0} (told : Refusal → A) where
     by_name false true a false = refl
     by_name false false a b = refl
 
-    under_judged : (cipher : ℕ) (r : Prepared) → under_cipher cipher (λ c. cond (admitted c r) (f c) (told Key)) (told Unknown) ≡ told_by told f (judged cipher r)
+    under_judged : (cipher : ℕ) (r : Prepared) → under_cipher cipher (λ c. cond (admitted c r) (f c) (told Key)) (told Unknown) ≡ told_by told f (judged_cipher cipher r)
     under_judged cipher r = by_name (eqb cipher 1) (eqb cipher 2) (admitted N64T192 r) (admitted N128T256 r)
 
 -- a key that is judged is admitted
-pub judged_admitted : (cipher : ℕ) (r : Prepared) {c : Cipher} → Ok c ≡ judged cipher r → admitted c r ≡ true
+pub judged_admitted : (cipher : ℕ) (r : Prepared) {c : Cipher} → Ok c ≡ judged_cipher cipher r → admitted c r ≡ true
 judged_admitted cipher r {c} e = by_name (eqb cipher 1) (eqb cipher 2) (admitted N64T192 r) (admitted N128T256 r) refl refl e where
   by_name : (p q a b : Bool) → admitted N64T192 r ≡ a → admitted N128T256 r ≡ b
       → ◌≡◌ {A = Result Cipher Refusal} (Ok c) (cond p (cond a (Ok N64T192) (Err Key)) (cond q (cond b (Ok N128T256) (Err Key)) (Err Unknown)))
@@ -67,21 +67,21 @@ judged_admitted cipher r {c} e = by_name (eqb cipher 1) (eqb cipher 2) (admitted
 abbrev fork_of_told : ForkTold → Result Forked Refusal
 fork_of_told t = cond (eqb t.number 0) (Ok (record { half0 = t.half0; half1 = t.half1; rounds = t.rounds })) (Err (refusal_of t.number t.rounds))
 
-fork_back : (a : Result Forked Refusal) → fork_of_told (fork_told a) ≡ a
+fork_back : (a : Result Forked Refusal) → fork_of_told (fork_result a) ≡ a
 fork_back (Ok f) = refl
 fork_back (Err r) = rw (number_not_0 r) (ap Err (refusal_back r))
 
-pub fork_named : (a b : Result Forked Refusal) → fork_told a ≡ fork_told b → a ≡ b
+pub fork_named : (a b : Result Forked Refusal) → fork_result a ≡ fork_result b → a ≡ b
 fork_named a b e = sym (fork_back a) ∙ ap fork_of_told e ∙ fork_back b
 
 abbrev unfork_of_told : UnforkTold → Result Unforked Refusal
 unfork_of_told t = cond (eqb t.number 0) (Ok (record { input = t.input; other = t.other; rounds = t.rounds })) (Err (refusal_of t.number t.rounds))
 
-unfork_back : (a : Result Unforked Refusal) → unfork_of_told (unfork_told a) ≡ a
+unfork_back : (a : Result Unforked Refusal) → unfork_of_told (unfork_result a) ≡ a
 unfork_back (Ok f) = refl
 unfork_back (Err r) = rw (number_not_0 r) (ap Err (refusal_back r))
 
-pub unfork_named : (a b : Result Unforked Refusal) → unfork_told a ≡ unfork_told b → a ≡ b
+pub unfork_named : (a b : Result Unforked Refusal) → unfork_result a ≡ unfork_result b → a ≡ b
 unfork_named a b e = sym (unfork_back a) ∙ ap unfork_of_told e ∙ unfork_back b
 
 module _ (cipher : ℕ) (tweak block : List ℕ) (want : ℕ) where
@@ -93,11 +93,11 @@ module _ (cipher : ℕ) (tweak block : List ℕ) (want : ℕ) where
       ∙ wanted fork_refusal (λ w. told_by fork_refusal (λ c. fork_by c key tweak block w) (cipher_named cipher)) want
 
   pub fork_with_names : (r : Prepared) → fork_with cipher r tweak block want
-      ≡ told_by fork_refusal (λ w. told_by fork_refusal (λ c. fork_by c (key_in c r.share) tweak block (want_of w)) (judged cipher r)) (want_named want)
+      ≡ told_by fork_refusal (λ w. told_by fork_refusal (λ c. fork_by c (key_in c r.share) tweak block (want_of w)) (judged_cipher cipher r)) (want_named want)
   unfolding fork_with
   fork_with_names r =
       ap (cond (ltb 2 want) (fork_refusal Unknown)) (under_judged fork_refusal (λ c. fork_by c (key_in c r.share) tweak block want) cipher r)
-      ∙ wanted fork_refusal (λ w. told_by fork_refusal (λ c. fork_by c (key_in c r.share) tweak block w) (judged cipher r)) want
+      ∙ wanted fork_refusal (λ w. told_by fork_refusal (λ c. fork_by c (key_in c r.share) tweak block w) (judged_cipher cipher r)) want
 
 module _ (cipher : ℕ) (tweak block : List ℕ) (from want : ℕ) where
   pub unfork_names : (key : List ℕ) → unfork_of cipher key tweak block from want
@@ -112,10 +112,10 @@ module _ (cipher : ℕ) (tweak block : List ℕ) (from want : ℕ) where
 
   pub unfork_with_names : (r : Prepared) → unfork_with cipher r tweak block from want
       ≡ told_by unfork_refusal
-      (λ h. told_by unfork_refusal (λ w. told_by unfork_refusal (λ c. unfork_by c (key_in c r.share) tweak block (half_of h) (want_of w)) (judged cipher r)) (want_named want))
+      (λ h. told_by unfork_refusal (λ w. told_by unfork_refusal (λ c. unfork_by c (key_in c r.share) tweak block (half_of h) (want_of w)) (judged_cipher cipher r)) (want_named want))
       (half_named from)
   unfolding unfork_with
   unfork_with_names r =
       ap (λ (x : UnforkTold). cond (ltb 1 from) (unfork_refusal Unknown) (cond (ltb 2 want) (unfork_refusal Unknown) x))
       (under_judged unfork_refusal (λ c. unfork_by c (key_in c r.share) tweak block from want) cipher r)
-      ∙ from_wanted unfork_refusal (λ h w. told_by unfork_refusal (λ c. unfork_by c (key_in c r.share) tweak block h w) (judged cipher r)) from want
+      ∙ from_wanted unfork_refusal (λ h w. told_by unfork_refusal (λ c. unfork_by c (key_in c r.share) tweak block h w) (judged_cipher cipher r)) from want

@@ -46,8 +46,8 @@ pub record UnforkTold : Type 0 where
   pub rounds : ℕ
 
 -- a prepared key is judged under the cipher that a number names (C-16): 2, after 1, for a record that is not admitted
-abbrev pub judged : ℕ → Prepared → Result Cipher Refusal
-judged cipher r = under_cipher cipher (λ c. cond (admitted c r) (Ok c) (Err Key)) (Err Unknown)
+abbrev pub judged_cipher : ℕ → Prepared → Result Cipher Refusal
+judged_cipher cipher r = under_cipher cipher (λ c. cond (admitted c r) (Ok c) (Err Key)) (Err Unknown)
 
 -- ---- forward
 
@@ -66,9 +66,9 @@ fork_done f = record { number = 0; half0 = f.half0; half1 = f.half1; rounds = f.
 abbrev pub fork_refusal : Refusal → ForkTold
 fork_refusal r = record { number = number_of r; half0 = zeros; half1 = zeros; rounds = rounds_of r }
 
-abbrev pub fork_told : Result Forked Refusal → ForkTold
-fork_told (Ok f) = fork_done f
-fork_told (Err r) = fork_refusal r
+abbrev pub fork_result : Result Forked Refusal → ForkTold
+fork_result (Ok f) = fork_done f
+fork_result (Err r) = fork_refusal r
 
 abbrev pub fork_refused : ForkTold
 fork_refused = fork_refused_with 1
@@ -110,9 +110,9 @@ unfork_done f = record { number = 0; input = f.input; other = f.other; rounds = 
 abbrev pub unfork_refusal : Refusal → UnforkTold
 unfork_refusal r = record { number = number_of r; input = zeros; other = zeros; rounds = rounds_of r }
 
-abbrev pub unfork_told : Result Unforked Refusal → UnforkTold
-unfork_told (Ok f) = unfork_done f
-unfork_told (Err r) = unfork_refusal r
+abbrev pub unfork_result : Result Unforked Refusal → UnforkTold
+unfork_result (Ok f) = unfork_done f
+unfork_result (Err r) = unfork_refusal r
 
 abbrev pub unfork_refused : UnforkTold
 unfork_refused = unfork_refused_with 1

@@ -2,7 +2,7 @@
 // then with 2 (a prepared key that is not one of this cipher's). They take numbers, as `fork_of` and `unfork_of` say what every number is answered.
 ghost use Rattle.std.specs.Prelude.{◌≡◌};
 ghost use Rattle.prepared.specs.Prepared.{key_in, Made};
-ghost use Rattle.forkskinny.specs.Calls.{judged, fork_by, fork_done, fork_told, fork_of, fork_with, unfork_by, unfork_done, unfork_told, unfork_of, unfork_with};
+ghost use Rattle.forkskinny.specs.Calls.{judged_cipher, fork_by, fork_done, fork_result, fork_of, fork_with, unfork_by, unfork_done, unfork_result, unfork_of, unfork_with};
 ghost use Rattle.forkskinny.specs.Wanted.{want_of, half_of};
 
 use crate::{Forked, Half, Keyed, Unforked, Want};
@@ -19,8 +19,8 @@ fn share_made(c: Cipher, key: &[u8; 16]) -> [u8; 784]
 }
 
 // The cipher that a number names, where it admits a prepared key.
-fn judged(cipher: u32, key: &Prepared) -> Result<Cipher, Refusal>
-    ensures { result ≡ judged cipher key.now }
+fn judged_cipher(cipher: u32, key: &Prepared) -> Result<Cipher, Refusal>
+    ensures { result ≡ judged_cipher cipher key.now }
 {
     let c = Cipher::try_from(cipher)?;
     if !key.is_admitted(c) {
@@ -48,7 +48,7 @@ pub fn fork_by_key(
     block: [u8; 16],
     want: u32,
 ) -> Result<Forked, Refusal>
-    ensures { fork_told result ≡ fork_of cipher key tweak block want }
+    ensures { fork_result result ≡ fork_of cipher key tweak block want }
 {
     let want = Want::try_from(want)?;
     let c = Cipher::try_from(cipher)?;
@@ -64,10 +64,10 @@ pub fn fork(
     block: [u8; 16],
     want: u32,
 ) -> Result<Forked, Refusal>
-    ensures { fork_told result ≡ fork_with cipher key.now tweak block want }
+    ensures { fork_result result ≡ fork_with cipher key.now tweak block want }
 {
     let want = Want::try_from(want)?;
-    let c = judged(cipher, key)?;
+    let c = judged_cipher(cipher, key)?;
     Ok(fork_keyed(c, &key.share, tweak, block, want))
 }
 
@@ -98,7 +98,7 @@ pub fn unfork_by_key(
     from: u32,
     want: u32,
 ) -> Result<Unforked, Refusal>
-    ensures { unfork_told result ≡ unfork_of cipher key tweak block from want }
+    ensures { unfork_result result ≡ unfork_of cipher key tweak block from want }
 {
     let from = Half::try_from(from)?;
     let want = Want::try_from(want)?;
@@ -116,10 +116,10 @@ pub fn unfork(
     from: u32,
     want: u32,
 ) -> Result<Unforked, Refusal>
-    ensures { unfork_told result ≡ unfork_with cipher key.now tweak block from want }
+    ensures { unfork_result result ≡ unfork_with cipher key.now tweak block from want }
 {
     let from = Half::try_from(from)?;
     let want = Want::try_from(want)?;
-    let c = judged(cipher, key)?;
+    let c = judged_cipher(cipher, key)?;
     Ok(unfork_keyed(c, &key.share, tweak, block, from, want))
 }

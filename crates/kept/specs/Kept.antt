@@ -8,15 +8,15 @@ use Rattle.prepared.specs.Prepared.{key_in, Made}
 use Rattle.kept.specs.declared.Kept.{Kept}
 
 -- the keys of the first m rounds, under the key that a share was made of and a tweak
-abbrev pub Keyed : Cipher → (share tweak : List ℕ) (m : ℕ) → List (List ℕ) → Type 0
-Keyed c share tweak m keys = RoundKeys (width_of c) (words_of c) m (tk c (key_in c share) tweak) keys
+abbrev pub KeysFor : Cipher → (share tweak : List ℕ) (m : ℕ) → List (List ℕ) → Type 0
+KeysFor c share tweak m keys = RoundKeys (width_of c) (words_of c) m (tk c (key_in c share) tweak) keys
 
 -- a room holds the keys of so many rounds, under a tweak
 pub record Holds (c : Cipher) (share : List ℕ) (kept : Kept) (keys : List (List ℕ)) : Type 0 where
   pub wide : length kept.tweak ≡ 16
   pub most : kept.rounds ≤ 87
   pub long : length keys ≡ 97
-  pub keyed : Keyed c share kept.tweak kept.rounds keys
+  pub keyed : KeysFor c share kept.tweak kept.rounds keys
 
 -- a room holds what is told of it; one in which nothing is laid has the constants
 abbrev pub Keeps : Cipher → (share : List ℕ) → Option Kept → List (List ℕ) → Type 0

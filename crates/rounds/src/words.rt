@@ -1,7 +1,7 @@
 // A state in words and back: a row of four cells is a word, the first cell its lowest byte, and each byte the complement of a cell.
 ghost use Rattle.std.specs.Prelude.{◌≡◌, ◌+◌, get_or};
 ghost use Rattle.cells.specs.Words.{lane, not8, near, far, pair_of, seen};
-ghost use Rattle.rounds.specs.State.{four, row, sub_by};
+ghost use Rattle.rounds.specs.State.{row, sub_by};
 ghost use Rattle.rounds.specs.Words.{shown, paired};
 
 use cells::kinds::Cell;

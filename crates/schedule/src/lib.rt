@@ -138,7 +138,8 @@ fn sixteen_on<K: Tweaked>(keys: &mut [[u8; 8]; 97], share: &[u8; 784], u: Moving
     Moving { cells, at: at + 16 }
 }
 
-// The key of the first round: the share's first row, and the tweak's cells. (As a row written out, as in `lay_pair`.)
+// The key of the first round: the share's first row, and the tweak's cells. (Stored as a row written out, as in `lay_pair`: the compiler takes its
+// eight cells in one load.)
 fn lay_first(keys: &mut [[u8; 8]; 97], share: &[u8; 784], tweak: [u8; 16])
     ensures { keys.new ≡ row_laid 0 (xor_row share.now tweak) keys.old }
 {

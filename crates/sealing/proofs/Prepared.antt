@@ -21,7 +21,7 @@ use Rattle.refusals.specs.declared.Refusal.{Refusal}
 use Rattle.forkskinny.specs.declared.Forked.{Forked}
 use Rattle.forkskinny.specs.declared.Unforked.{Unforked}
 use Rattle.forkskinny.proofs.Told.{fork_named, unfork_named}
-use Rattle.forkskinny.specs.Calls.{fork_told, unfork_told, fork_by, unfork_by, fork_refused_with, unfork_refused_with, fork_of, unfork_of, fork_with, unfork_with}
+use Rattle.forkskinny.specs.Calls.{fork_result, unfork_result, fork_by, unfork_by, fork_refused_with, unfork_refused_with, fork_of, unfork_of, fork_with, unfork_with}
 use Rattle.schemes.specs.declared.Scheme.{Scheme}
 use Rattle.std.specs.Prelude.{Some}
 use Rattle.schemes.specs.Schemes.{scheme_of}
@@ -114,9 +114,9 @@ module _ (number : ℕ) (r : Prepared) where
   same_open_with nonce header run room a b p q = p ∙ sym q
 
   pub same_fork_with : (tweak block : List ℕ) (want : ℕ) (a b : Result Forked Refusal)
-      → fork_told a ≡ fork_with number r tweak block want → fork_told b ≡ fork_with number r tweak block want → a ≡ b
+      → fork_result a ≡ fork_with number r tweak block want → fork_result b ≡ fork_with number r tweak block want → a ≡ b
   same_fork_with tweak block want a b p q = fork_named a b (p ∙ sym q)
 
   pub same_unfork_with : (tweak block : List ℕ) (from want : ℕ) (a b : Result Unforked Refusal)
-      → unfork_told a ≡ unfork_with number r tweak block from want → unfork_told b ≡ unfork_with number r tweak block from want → a ≡ b
+      → unfork_result a ≡ unfork_with number r tweak block from want → unfork_result b ≡ unfork_with number r tweak block from want → a ≡ b
   same_unfork_with tweak block from want a b p q = unfork_named a b (p ∙ sym q)

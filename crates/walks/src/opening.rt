@@ -12,7 +12,7 @@ use blocks::{differences, load, store};
 use states::{State, Under};
 use steps::Mode;
 
-// The block at the front of a part, not the last one.
+// The block at the front of a part, not the last one. (Out of line, so that its frame is not its caller's too: docs/DECISIONS.md.)
 #[inline(never)]
 fn turn<M: Mode>(under: &mut Under, s: State, part: &[u8], rest: &mut [u8]) -> State
     requires steppable { Steppable M.kind under.old s }

@@ -9,10 +9,8 @@ use crate::headers::head;
 use crate::{opening, sealing};
 use blocks::{equal, store};
 use ciphers::Cipher;
-use eevee::jolteon::Jolteon;
-use eevee::umbreon::Umbreon;
-use forkae::paef::Paef;
-use forkae::saef::Saef;
+use eevee::{Jolteon, Umbreon};
+use forkae::{Paef, Saef};
 use states::{Kind, Under};
 use steps::Mode;
 
