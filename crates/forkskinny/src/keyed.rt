@@ -7,7 +7,7 @@ ghost use Rattle.forkskinny.specs.Calls.{fork_by, fork_done, unfork_by, unfork_d
 ghost use Rattle.forkskinny.specs.Keyed.{Keying};
 ghost use Rattle.forkskinny.specs.Wanted.{want_of, half_of};
 
-use crate::{Forked, Half, Laid, Unforked, Want, fork_reach, unfork_reach};
+use crate::{Forked, Half, Laid, Unforked, Want, reach_back, reach_forward};
 use ciphers::Cipher;
 use kept::Kept;
 use std::marker::Model;
@@ -53,7 +53,7 @@ impl<'a> Keyed<'a> {
         ensures forked { fork_done result ≡ fork_by self.old.cipher self.old.key tweak block (want_of want) }
         ensures same { self.new ≡ self.old }
     {
-        let m = fork_reach(self.cipher, want);
+        let m = reach_forward(self.cipher, want);
         let kept = kept::turn_to(
             self.cipher,
             self.share,
@@ -75,7 +75,7 @@ impl<'a> Keyed<'a> {
         ensures unforked { unfork_done result ≡ unfork_by self.old.cipher self.old.key tweak block (half_of from) (want_of want) }
         ensures same { self.new ≡ self.old }
     {
-        let m = unfork_reach(self.cipher, from, want);
+        let m = reach_back(self.cipher, from, want);
         let kept = kept::turn_to(
             self.cipher,
             self.share,

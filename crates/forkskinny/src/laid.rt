@@ -11,7 +11,7 @@ ghost use Rattle.forkskinny.specs.Calls.{fork_by, fork_done, unfork_by, unfork_d
 ghost use Rattle.forkskinny.specs.Wanted.{want_of, half_of};
 
 use crate::{
-    Branch, Forked, Half, Unforked, Want, enter_branch, fork_rounds, start_of, unfork_rounds,
+    Branch, Forked, Half, Unforked, Want, enter_branch, rounds_back, rounds_forward, start_of,
 };
 use cells::kinds;
 use ciphers::Cipher;
@@ -35,7 +35,7 @@ impl<'a> Laid<'a> {
     // of these matches it once.)
 
     // As many rounds as count says, from round `from` on.
-    fn run(&self, from: usize, count: usize, s: [[u8; 4]; 4]) -> [[u8; 4]; 4]
+    pub fn run(&self, from: usize, count: usize, s: [[u8; 4]; 4]) -> [[u8; 4]; 4]
         requires { (0 < count) × (from + count ≤ 87) }
         ensures { Ran (width_of self.now.cipher) (from + count) self.now.keys.now from count s result }
     {
@@ -46,7 +46,7 @@ impl<'a> Laid<'a> {
     }
 
     // These rounds undone.
-    fn unrun(&self, from: usize, count: usize, s: [[u8; 4]; 4]) -> [[u8; 4]; 4]
+    pub fn unrun(&self, from: usize, count: usize, s: [[u8; 4]; 4]) -> [[u8; 4]; 4]
         requires { (0 < count) × (from + count ≤ 87) }
         ensures { Unran (width_of self.now.cipher) (from + count) self.now.keys.now from count s result }
     {
@@ -57,7 +57,7 @@ impl<'a> Laid<'a> {
     }
 
     // Two states side by side, `far` from as many rounds later on.
-    fn run_both(
+    pub fn run_both(
         &self,
         from: usize,
         count: usize,
@@ -74,7 +74,7 @@ impl<'a> Laid<'a> {
     }
 
     // From a state at the fork both ways: the first n rounds undone, and `other` as many on as count says, from round `from` on.
-    fn run_apart(
+    pub fn run_apart(
         &self,
         n: usize,
         from: usize,
@@ -171,7 +171,7 @@ impl<'a> Laid<'a> {
         ensures { (key tweak : List ℕ) → LaidFor self.now.cipher (fork_reach self.now.cipher (want_of want)) (tk self.now.cipher key tweak) self.now.keys.now → fork_done result ≡ fork_by self.now.cipher key tweak block (want_of want) }
     {
         let s = self.to_fork(block);
-        let rounds = fork_rounds(self.cipher, want);
+        let rounds = rounds_forward(self.cipher, want);
         match want {
             Want::First => {
                 let half0 = self.run_branch(Half::Zero.branch(), s);
@@ -210,7 +210,7 @@ impl<'a> Laid<'a> {
     {
         let s = self.unrun_branch(from.branch(), block);
         let to = from.other().branch();
-        let rounds = unfork_rounds(self.cipher, want);
+        let rounds = rounds_back(self.cipher, want);
         match want {
             Want::First => {
                 let input = self.from_fork(s);

@@ -14,7 +14,10 @@ ghost use Rattle.forkskinny.specs.Reach.{reach_of, fork_reach, unfork_reach};
 ghost use Rattle.forkskinny.specs.Calls.{rounds_for, fork_rounds, unfork_rounds};
 ghost use Rattle.forkskinny.specs.Wanted.{want_of, half_of};
 
-pub use by_number::{fork_by, fork_on, unfork_by, unfork_on};
+pub use by_number::{
+    ForkedOn, UnforkedOn, fork_by, fork_laid, fork_on, fork_reach, fork_rounds, unfork_by,
+    unfork_laid, unfork_on, unfork_reach,
+};
 use ciphers::Cipher;
 pub use keyed::Keyed;
 pub use laid::Laid;
@@ -73,7 +76,7 @@ fn rounds_for(n: usize, a: usize, b: usize, want: Want) -> u32
 }
 
 // The rounds of a call forward: those before the fork, and those of each branch that is asked for.
-pub fn fork_rounds(c: Cipher, want: Want) -> u32
+pub fn rounds_forward(c: Cipher, want: Want) -> u32
     ensures { result ≡ fork_rounds c (want_of want) }
 {
     let half = ciphers::branch_of(c);
@@ -89,7 +92,7 @@ pub struct Forked {
 }
 
 // The rounds whose keys a call forward takes.
-fn fork_reach(c: Cipher, want: Want) -> usize
+fn reach_forward(c: Cipher, want: Want) -> usize
     ensures { (result ≡ fork_reach c (want_of want)) × (0 < result) × (result ≤ 87) }
 {
     let far = match want {
@@ -102,7 +105,7 @@ fn fork_reach(c: Cipher, want: Want) -> usize
 
 // The rounds of a call back: those of the branch whose half is given, those before the fork where the input is asked for, and those of
 // the other branch where its half is.
-fn unfork_rounds(c: Cipher, want: Want) -> u32
+fn rounds_back(c: Cipher, want: Want) -> u32
     ensures { result ≡ unfork_rounds c (want_of want) }
 {
     let half = ciphers::branch_of(c);
@@ -118,7 +121,7 @@ pub struct Unforked {
 }
 
 // The rounds whose keys a call back takes.
-fn unfork_reach(c: Cipher, from: Half, want: Want) -> usize
+fn reach_back(c: Cipher, from: Half, want: Want) -> usize
     ensures { (result ≡ unfork_reach c (half_of from) (want_of want)) × (0 < result) × (result ≤ 87) }
 {
     let other = match want {

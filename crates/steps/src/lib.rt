@@ -59,8 +59,8 @@ pub trait Mode {
 pub fn prices_of(c: Cipher, k: Kind) -> Prices
     ensures { result ≡ prices_of k c }
 {
-    let one = forkskinny::fork_rounds(c, Want::First);
-    let both = forkskinny::fork_rounds(c, Want::Both);
+    let one = forkskinny::rounds_forward(c, Want::First);
+    let both = forkskinny::rounds_forward(c, Want::Both);
     let block = match k {
         Kind::Paef => both,
         Kind::Saef => both,

@@ -10,7 +10,7 @@ returns-then-a-b c = not_same c.args.a.now c.args.b.now c.if-a-b.true
 
 pub returns : goal.returns
 returns c =
-    let first = YieldsList-at c.zip.ensures.first (YieldsList-from_slice c.args.a.now cc) in
-    let second = YieldsList-at c.zip.ensures.second (YieldsList-from_slice c.args.b.now cc) in
+    let first = YieldsList-at c.zip.ensures.first (YieldsList-from_slice c.args.a.now c.iter.ensures.rest) in
+    let second = YieldsList-at c.zip.ensures.second (YieldsList-from_slice c.args.b.now c.iter-2.ensures.rest) in
     rw (fold_from_yields_List _ differing 0 c.fold.result c.fold.ensures.ran (YieldsList-from_zip first second) (λ d p e q k. search rules))
     (collected c.args.a.now c.args.b.now c.if-a-b.false)

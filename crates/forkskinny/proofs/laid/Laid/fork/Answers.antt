@@ -16,7 +16,7 @@ returns-in-First c =
     rw c.in-First.is (λ key tweak k.
     fork_made a.self.now.cipher a.block key tweak 0 (at_fork a.self.now.cipher false k c.to_fork-s.ensures)
     (in_branch a.self.now.cipher false k (λ b t. c.run_branch-half0.result ≡ branch a.self.now.cipher b t c.to_fork-s.result) c.branch.ensures (λ p. p) c.run_branch-half0.ensures)
-    refl (c.fork_rounds-rounds.ensures ∙ ap (λ (w : Want). fork_rounds a.self.now.cipher (want_of w)) c.in-First.is))
+    refl (c.rounds_forward-rounds.ensures ∙ ap (λ (w : Want). fork_rounds a.self.now.cipher (want_of w)) c.in-First.is))
 
 pub returns-in-Second : goal.returns-in-Second
 unfolding wants
@@ -25,7 +25,7 @@ returns-in-Second c =
     rw c.in-Second.is (λ key tweak k.
     fork_made a.self.now.cipher a.block key tweak 1 (at_fork a.self.now.cipher true k c.to_fork-s.ensures) refl
     (in_branch a.self.now.cipher true k (λ b t. c.run_branch-half1.result ≡ branch a.self.now.cipher b t c.to_fork-s.result) c.branch-in-Second.ensures (λ p. p) c.run_branch-half1.ensures)
-    (c.fork_rounds-rounds.ensures ∙ ap (λ (w : Want). fork_rounds a.self.now.cipher (want_of w)) c.in-Second.is))
+    (c.rounds_forward-rounds.ensures ∙ ap (λ (w : Want). fork_rounds a.self.now.cipher (want_of w)) c.in-Second.is))
 
 pub returns-in-Both : goal.returns-in-Both
 unfolding wants
@@ -34,4 +34,4 @@ returns-in-Both c =
     rw c.in-Both.is (λ key tweak k.
     let halves = c.both_halves-both.ensures (tk a.self.now.cipher key tweak) k in
     fork_made a.self.now.cipher a.block key tweak 2 (at_fork a.self.now.cipher true k c.to_fork-s.ensures) halves.0 halves.1
-    (c.fork_rounds-rounds.ensures ∙ ap (λ (w : Want). fork_rounds a.self.now.cipher (want_of w)) c.in-Both.is))
+    (c.rounds_forward-rounds.ensures ∙ ap (λ (w : Want). fork_rounds a.self.now.cipher (want_of w)) c.in-Both.is))

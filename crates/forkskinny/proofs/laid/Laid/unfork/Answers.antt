@@ -25,7 +25,7 @@ returns-in-First c =
     unfork_made a.self.now.cipher a.block key tweak h 0
     (in_branch a.self.now.cipher f k (λ b t. c.unrun_branch-s.result ≡ unbranch a.self.now.cipher b t a.block) c.branch-from.ensures (far_first true h (wants 1 0) (other_of h) refl) c.unrun_branch-s.ensures)
     (at_fork a.self.now.cipher f k c.from_fork-input.ensures) refl
-    (c.unfork_rounds-rounds.ensures ∙ ap (λ (w : Want). unfork_rounds a.self.now.cipher (want_of w)) c.in-First.is))
+    (c.rounds_back-rounds.ensures ∙ ap (λ (w : Want). unfork_rounds a.self.now.cipher (want_of w)) c.in-First.is))
 
 pub returns-in-Second : goal.returns-in-Second
 unfolding wants
@@ -39,7 +39,7 @@ returns-in-Second c =
     refl
     (in_branch a.self.now.cipher f k (λ b t. c.run_branch-other.result ≡ branch a.self.now.cipher b t c.unrun_branch-s.result) (c.branch-to.ensures ∙ ap side_of c.other.ensures)
     (far_second true h (wants 1 1) (other_of h) refl) c.run_branch-other.ensures)
-    (c.unfork_rounds-rounds.ensures ∙ ap (λ (w : Want). unfork_rounds a.self.now.cipher (want_of w)) c.in-Second.is))
+    (c.rounds_back-rounds.ensures ∙ ap (λ (w : Want). unfork_rounds a.self.now.cipher (want_of w)) c.in-Second.is))
 
 pub returns-in-Both : goal.returns-in-Both
 unfolding wants
@@ -53,4 +53,4 @@ returns-in-Both c =
     unfork_made a.self.now.cipher a.block key tweak h 2
     (in_branch a.self.now.cipher f k (λ b t. c.unrun_branch-s.result ≡ unbranch a.self.now.cipher b t a.block) c.branch-from.ensures (far_first true h (wants 1 2) (other_of h) refl) c.unrun_branch-s.ensures)
     ends.0 ends.1
-    (c.unfork_rounds-rounds.ensures ∙ ap (λ (w : Want). unfork_rounds a.self.now.cipher (want_of w)) c.in-Both.is))
+    (c.rounds_back-rounds.ensures ∙ ap (λ (w : Want). unfork_rounds a.self.now.cipher (want_of w)) c.in-Both.is))

@@ -1,4 +1,4 @@
--- `forkskinny::fork_reach` meets its contract: by what is wanted. Assumes nothing.
+-- `forkskinny::reach_forward` meets its contract: by what is wanted. Assumes nothing.
 use mathlib.Core.Path.{◌≡◌, refl, ◌∙◌, ap}
 use native.Mathlib.Omega.{arith}
 use Rattle.ciphers.proofs.Laws.{init_some}
@@ -6,8 +6,8 @@ use Rattle.forkskinny.specs.Reach.{takes_far, reach_of}
 use Rattle.forkskinny.specs.Calls.{wants}
 use Rattle.forkskinny.specs.Wanted.{want_of}
 use Rattle.forkskinny.proofs.Places.{reach_fit, reach_init}
-use Rattle.forkskinny.proofs.fork_reach.Goals.{in-First, in-Second, in-Both}
-use Rattle.forkskinny.proofs.fork_reach.Goals as goal
+use Rattle.forkskinny.proofs.reach_forward.Goals.{in-First, in-Second, in-Both}
+use Rattle.forkskinny.proofs.reach_forward.Goals as goal
 
 pub returns : goal.returns
 unfolding wants

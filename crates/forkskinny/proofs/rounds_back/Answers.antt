@@ -1,10 +1,10 @@
--- `forkskinny::unfork_rounds` meets its contract: the rounds of its parts. Assumes nothing.
+-- `forkskinny::rounds_back` meets its contract: the rounds of its parts. Assumes nothing.
 use mathlib.Core.Path.{◌∙◌}
 use native.Mathlib.Omega.{arith}
 use Rattle.ciphers.proofs.Laws.{fit}
 use Rattle.forkskinny.specs.Calls.{rounds_for, unfork_rounds}
 use Rattle.forkskinny.specs.Wanted.{want_of}
-use Rattle.forkskinny.proofs.unfork_rounds.Goals as goal
+use Rattle.forkskinny.proofs.rounds_back.Goals as goal
 
 pub rounds_for-requires : goal.rounds_for-requires
 rounds_for-requires c =

@@ -1,4 +1,4 @@
--- `forkskinny::unfork_reach` meets its contract: by what is wanted, and from which half. Assumes nothing.
+-- `forkskinny::reach_back` meets its contract: by what is wanted, and from which half. Assumes nothing.
 use mathlib.Core.Path.{◌≡◌, refl, ◌∙◌, ap}
 use native.Mathlib.Omega.{arith}
 use Rattle.ciphers.proofs.Laws.{init_some}
@@ -8,8 +8,8 @@ use Rattle.forkskinny.specs.Calls.{wants}
 use Rattle.forkskinny.specs.Wanted.{want_of, half_of}
 use mathlib.Core.Bool.{Bool, true, false, cond}
 use Rattle.forkskinny.proofs.Places.{reach_fit, reach_init}
-use Rattle.forkskinny.proofs.unfork_reach.Goals.{in-First, in-Second, in-Both, in-Zero, in-One}
-use Rattle.forkskinny.proofs.unfork_reach.Goals as goal
+use Rattle.forkskinny.proofs.reach_back.Goals.{in-First, in-Second, in-Both, in-Zero, in-One}
+use Rattle.forkskinny.proofs.reach_back.Goals as goal
 
 chosen : (b : Bool) → b ≡ cond b true false
 chosen true = refl
