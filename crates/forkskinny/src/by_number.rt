@@ -78,7 +78,7 @@ pub fn fork_on(
     want: u32,
 ) -> ForkedOn
     requires { Lent c share.now kept keys.old }
-    ensures { (fork_done result.forked ≡ fork_by c (key_in c share.now) tweak block want) × Lent c share.now (Some result.kept) keys.new }
+    ensures { (fork_done result.forked ≡ fork_by c (key_in c share.now) tweak block want) × Lent c share.now (Some result.kept) keys.new × (0 < result.kept.rounds) }
 {
     let m = fork_reach(c, want);
     let turned = kept::turn_to(c, share, keys, kept, &tweak, m);
@@ -168,7 +168,7 @@ pub fn unfork_on(
     want: u32,
 ) -> UnforkedOn
     requires { Lent c share.now kept keys.old }
-    ensures { (unfork_done result.unforked ≡ unfork_by c (key_in c share.now) tweak block from want) × Lent c share.now (Some result.kept) keys.new }
+    ensures { (unfork_done result.unforked ≡ unfork_by c (key_in c share.now) tweak block from want) × Lent c share.now (Some result.kept) keys.new × (0 < result.kept.rounds) }
 {
     let m = unfork_reach(c, from, want);
     let turned = kept::turn_to(c, share, keys, kept, &tweak, m);

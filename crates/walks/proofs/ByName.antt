@@ -1,12 +1,27 @@
--- What is told of a record under a mode's name, said of the name that was asked for. Assumes nothing.
+-- What is told of a walk or a record under a mode's name, said of the name that was asked for. Assumes nothing.
 use mathlib.Core.Path.{◌≡◌, subst, subst⁻¹}
 use mathlib.Core.Bool.{Bool}
 use mathlib.Core.List.{List}
 use Prim.Native.Nat.{ℕ}
 use Rattle.ciphers.specs.declared.Cipher.{Cipher}
 use Rattle.states.specs.declared.Kind.{Kind}
+use Rattle.states.specs.declared.State.{State}
 use Rattle.states.specs.Under.{KeyAndNonce}
-use Rattle.walks.specs.Walks.{RecordSealed, RecordOpened}
+use Rattle.walks.specs.Walks.{Headed, BodySealed, RunOpened, RecordSealed, RecordOpened}
+
+-- of a walk, under the key that was set to work
+module _ {k l : Kind} {u v : KeyAndNonce} (is : k ≡ l) (e : u ≡ v) where
+  walked : (P : Kind → KeyAndNonce → Type 0) → P l u → P k v
+  walked P t = subst⁻¹ (λ (k : Kind). P k v) is (subst (P l) e t)
+
+  pub headed_by : (empty : Bool) (header : List ℕ) (s : State) → Headed l u empty header s → Headed k v empty header s
+  headed_by empty header s = walked (λ (k : Kind) (u : KeyAndNonce). Headed k u empty header s)
+
+  pub body_by : (start : State) (body old new : List ℕ) → BodySealed l u start body old new → BodySealed k v start body old new
+  body_by start body old new = walked (λ (k : Kind) (u : KeyAndNonce). BodySealed k u start body old new)
+
+  pub run_by : (start : State) (run old new : List ℕ) (authentic : Bool) → RunOpened l u start run old authentic new → RunOpened k v start run old authentic new
+  run_by start run old new authentic = walked (λ (k : Kind) (u : KeyAndNonce). RunOpened k u start run old authentic new)
 
 module _ (c : Cipher) (key nonce : List ℕ) {u : KeyAndNonce} (e : u ≡ record { cipher = c; key = key; nonce = nonce }) (header : List ℕ) where
   pub sealed_by : (k l : Kind) → k ≡ l → (body old new : List ℕ) → RecordSealed u.cipher l u.key u.nonce header body old new

@@ -1,7 +1,8 @@
-// The walks: over a header, over a body to be sealed, over a run to be opened, block by block. They are the same for every mode: records.rt alone
-// names the four.
+// The walks: over a header, over a body to be sealed, over a run to be opened, block by block. They are the same for every mode: records.rt
+// and by_name.rt alone name the four.
 #![tactic(auto)]
 
+pub mod by_name;
 pub mod counting;
 pub mod ends;
 pub mod headers;
