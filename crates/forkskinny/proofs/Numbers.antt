@@ -17,47 +17,40 @@ want_is (suc (suc zero)) e = cc
 want_is (suc (suc (suc n))) e = cc
 
 -- a number that names no choice wants neither result
-unwanted : (k n : ℕ) → k < 2 → wants k (suc (suc (suc n))) ≡ false
+unwanted : (k want : ℕ) {r : Refusal} → k < 2 → Err r ≡ want_named want → wants k want ≡ false
 unfolding wants
-unwanted k n low = rw (ne_eqb (suc (suc (suc n))) k (λ e. omega arith), ne_eqb (suc (suc (suc n))) 2 (λ e. omega arith)) refl
+unwanted k zero low e = cc
+unwanted k (suc zero) low e = cc
+unwanted k (suc (suc zero)) low e = cc
+unwanted k (suc (suc (suc n))) low e = rw (ne_eqb (suc (suc (suc n))) k (λ e. omega arith), ne_eqb (suc (suc (suc n))) 2 (λ e. omega arith)) refl
 
--- so the blocks are zeros, and only the rounds that every call runs are run
-pub fork_nothing : (c : Cipher) (key tweak block : List ℕ) (want : ℕ) {r : Refusal} → Err r ≡ want_named want
-    → fork_by c key tweak block want ≡ record { number = 0; half0 = zeros; half1 = zeros; rounds = init_of c }
-unfolding fork_rounds
-fork_nothing c key tweak block zero e = cc
-fork_nothing c key tweak block (suc zero) e = cc
-fork_nothing c key tweak block (suc (suc zero)) e = cc
-fork_nothing c key tweak block (suc (suc (suc n))) e =
-    rw (unwanted 0 n (omega arith), unwanted 1 n (omega arith))
-    (ap (λ (x : ℕ). record { number = 0; half0 = zeros; half1 = zeros; rounds = x }) (omega arith))
+module _ (c : Cipher) where
+  -- so the blocks are zeros, and only the rounds that every call runs are run
+  module _ (key tweak block : List ℕ) where
+    pub fork_nothing : (want : ℕ) {r : Refusal} → Err r ≡ want_named want
+        → fork_by c key tweak block want ≡ record { number = 0; half0 = zeros; half1 = zeros; rounds = init_of c }
+    unfolding fork_rounds
+    fork_nothing want e =
+        rw (unwanted 0 want (omega arith) e, unwanted 1 want (omega arith) e)
+        (ap (λ (x : ℕ). record { number = 0; half0 = zeros; half1 = zeros; rounds = x }) (omega arith))
 
-pub unfork_nothing : (c : Cipher) (key tweak block : List ℕ) (from want : ℕ) {r : Refusal} → Err r ≡ want_named want
-    → unfork_by c key tweak block from want ≡ record { number = 0; input = zeros; other = zeros; rounds = branch_of c }
-unfolding unfork_rounds
-unfork_nothing c key tweak block from zero e = cc
-unfork_nothing c key tweak block from (suc zero) e = cc
-unfork_nothing c key tweak block from (suc (suc zero)) e = cc
-unfork_nothing c key tweak block from (suc (suc (suc n))) e =
-    rw (unwanted 0 n (omega arith), unwanted 1 n (omega arith))
-    (ap (λ (x : ℕ). record { number = 0; input = zeros; other = zeros; rounds = x }) (omega arith))
+    pub unfork_nothing : (from want : ℕ) {r : Refusal} → Err r ≡ want_named want
+        → unfork_by c key tweak block from want ≡ record { number = 0; input = zeros; other = zeros; rounds = branch_of c }
+    unfolding unfork_rounds
+    unfork_nothing from want e =
+        rw (unwanted 0 want (omega arith) e, unwanted 1 want (omega arith) e)
+        (ap (λ (x : ℕ). record { number = 0; input = zeros; other = zeros; rounds = x }) (omega arith))
 
-pub fork_costs_nothing : (c : Cipher) (want : ℕ) {r : Refusal} → Err r ≡ want_named want → init_of c ≡ fork_rounds c want
-fork_costs_nothing c want e = ap (λ (t : ForkTold). t.rounds) (sym (fork_nothing c [] [] [] want e))
+  pub fork_costs_nothing : (want : ℕ) {r : Refusal} → Err r ≡ want_named want → init_of c ≡ fork_rounds c want
+  fork_costs_nothing want e = ap (λ (t : ForkTold). t.rounds) (sym (fork_nothing [] [] [] want e))
 
--- and no branch is reached but the one that every call reaches
-pub fork_reaches_nothing : (c : Cipher) (want : ℕ) {r : Refusal} → Err r ≡ want_named want → reach_of c false ≡ fork_reach c want
-fork_reaches_nothing c zero e = cc
-fork_reaches_nothing c (suc zero) e = cc
-fork_reaches_nothing c (suc (suc zero)) e = cc
-fork_reaches_nothing c (suc (suc (suc n))) e = rw (unwanted 0 n (omega arith), unwanted 1 n (omega arith)) refl
+  -- and no branch is reached but the one that every call reaches
+  pub fork_reaches_nothing : (want : ℕ) {r : Refusal} → Err r ≡ want_named want → reach_of c false ≡ fork_reach c want
+  fork_reaches_nothing want e = rw (unwanted 0 want (omega arith) e, unwanted 1 want (omega arith) e) refl
 
-pub unfork_reaches_nothing : (c : Cipher) (from want : ℕ) {r : Refusal} → Err r ≡ want_named want → unfork_reach c from 0 ≡ unfork_reach c from want
-unfolding wants
-unfork_reaches_nothing c from zero e = cc
-unfork_reaches_nothing c from (suc zero) e = cc
-unfork_reaches_nothing c from (suc (suc zero)) e = cc
-unfork_reaches_nothing c from (suc (suc (suc n))) e = rw (unwanted 1 n (omega arith)) refl
+  pub unfork_reaches_nothing : (from want : ℕ) {r : Refusal} → Err r ≡ want_named want → unfork_reach c from 0 ≡ unfork_reach c from want
+  unfolding wants
+  unfork_reaches_nothing from want e = rw (unwanted 1 want (omega arith) e) refl
 
 -- every number but 0 is half 1
 pub one_half_reach : (c : Cipher) (from want : ℕ) → unfork_reach c (cond (eqb from 0) 0 1) want ≡ unfork_reach c from want
